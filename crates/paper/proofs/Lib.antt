@@ -1,0 +1,4 @@
+pub mod Event
+pub mod Safe
+pub mod Carried
+pub mod Secret
