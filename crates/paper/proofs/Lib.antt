@@ -1,4 +1,9 @@
 pub mod Event
+pub mod Closures
+pub mod Steps
+pub mod Fresh
 pub mod Safe
 pub mod Carried
 pub mod Secret
+pub mod Certificates
+pub mod Possible

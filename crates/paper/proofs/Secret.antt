@@ -15,6 +15,7 @@ use Rattle.paper.specs.Rules.{secretNote, carried, cert, Step, Fake, Spy
 use Rattle.paper.specs.Generated.{Generated, Nil, step, exchange}
 use Rattle.paper.specs.Secret.{Besides, before, besides, Secret}
 use Rattle.paper.proofs.Event.{In-cons, In-behind, Used-beginning, Spies-beginning}
+use Rattle.paper.proofs.Steps.{no-step}
 use Rattle.paper.proofs.Carried.{carried-part, carried-valid, carried-safe, safe-carried}
 use Rattle.paper.proofs.Safe.{Safe, SafeNonce, SafeKey, Valid, analz-safe, synth-safe}
 
@@ -60,9 +61,6 @@ module _ (bad : agent → Type 0) (A B : agent) (p : ℕ) where
 
   hash-valid : (K : key) (X : msg) → Valid K (Hash X)
   hash-valid K X C k q = absurd (true≢false (cc))
-
-  no-note : {evs : trace} {n : ℕ} → Step bad evs Note n → ⊥
-  no-note s = elim s [ ]
 
   module _ (trusted : ¬ bad Authority) (honest : ¬ bad B) where
     -- a compromised agent's key exchange carried a Safe secret
@@ -117,7 +115,7 @@ module _ (bad : agent → Type 0) (A B : agent) (p : ℕ) where
       -- the condition held before a step too: a single step brings no such note, and rule 6 brings it for an unused secret
       Before-step : {evs : trace} {e : event} {n : ℕ} → Step bad evs e n → Kept (e ∷ evs) → Before e evs
       Before-step s (inl unused) = inl unused
-      Before-step s (inr here) = absurd (no-note s)
+      Before-step s (inr here) = absurd (no-step s)
       Before-step s (inr (there i)) = inr i
 
       Kept-before : {e : event} {evs : trace} → Before e evs → Kept evs

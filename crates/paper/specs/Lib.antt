@@ -5,3 +5,7 @@ pub mod Used
 pub mod Rules
 pub mod Generated
 pub mod Secret
+pub mod Certificates
+pub mod Steps
+pub mod Possible
+pub mod Closures
