@@ -1,16 +1,11 @@
--- All that the proofs know of what a key exchange carries: the pre-master secret is a part of it, it is Safe where the secret is,
--- and no certificate is made of it. A second version of `carried` is held to these four.
+-- All that the proofs know of what a key exchange carries: it is Safe exactly where the pre-master secret is, and no
+-- certificate is made of it. A second version of `carried` is held to these three.
 -- Assumes nothing.
 use Prim.Native.Nat.{ℕ}
-use mathlib.Core.Bool.{true, false, true≢false}
-use mathlib.Core.Path.{_≡_}
-use Rattle.paper.specs.Message.{agent, nonce, key, Nonce}
-use Rattle.paper.specs.Used.{Part, self}
+use mathlib.Core.Bool.{true≢false}
+use Rattle.paper.specs.Message.{agent, nonce, key}
 use Rattle.paper.specs.Rules.{carried}
 use Rattle.paper.proofs.Safe.{Safe, SafeNonce, Valid}
-
-pub carried-part : (A : agent) (N : nonce) → Part (Nonce N) (carried A N)
-carried-part A N = self
 
 pub carried-valid : (K : key) (A : agent) (N : nonce) → Valid K (carried A N)
 carried-valid K A N C k q = absurd (true≢false (cc))

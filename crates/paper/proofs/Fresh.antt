@@ -4,7 +4,7 @@ use Prim.Native.Nat.{ℕ, suc, _+_, _<_, _≤_}
 use native.Mathlib.Omega.{arith}
 use mathlib.Core.List.{[], _∷_}
 use Rattle.paper.specs.Message.{agent, plain, PRF, msg, Agent, Number, Nonce, Key, Hash, Crypt, Pair, nonce}
-use Rattle.paper.specs.Event.{event, trace, Says, Notes, In, here, there}
+use Rattle.paper.specs.Event.{trace, Says, Notes, In, here, there}
 use Rattle.paper.specs.Used.{Used, inSays, inNotes, Part, self, left, right, body}
 
 unfoldable pub above-nonce : nonce → ℕ

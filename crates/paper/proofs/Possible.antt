@@ -1,16 +1,15 @@
 -- Not empty: each step's premises stand in the trace before it, and a fresh value is not among the nonces of the events between.
 -- Assumes nothing.
 use Prim.Native.Nat.{ℕ}
-use mathlib.Core.Path.{_≡_, refl, sym}
+use mathlib.Core.Path.{_≡_, refl}
 use mathlib.Core.List.{List, [], _∷_}
-use mathlib.Core.Bool.{true, false, true≢false}
 use mathlib.Core.Logic.{_⊎_, inl, inr, ⊎-elim}
-use Rattle.paper.specs.Message.{agent, Spy, role, ClientRole, ServerRole, nonce, plain, PRF, key, pubK, sessionK, msg, Agent, Number, Nonce, Key, Hash, Crypt, Pair}
-use Rattle.paper.specs.Event.{event, trace, Says, Notes, In, here, there, whole}
+use Rattle.paper.specs.Message.{agent, plain, key, pubK, msg, Agent, Number, Nonce, Key, Hash, Crypt, Pair}
+use Rattle.paper.specs.Event.{trace, Says, Notes, In, here, there, whole}
 use Rattle.paper.specs.Used.{Part, self, left, right, body, Used, inSays, inNotes}
-use Rattle.paper.specs.Rules.{CH, SH, cert, secretNote, carried, Finished, sessionNote, Step, ClientHello, ServerHello, Certificate, CertVerify, ClientFinished, ServerFinished, ClientAccepts, ServerAccepts, ClientResume, ServerResume, Oops, ClientKeyExch}
+use Rattle.paper.specs.Rules.{CH, SH, cert, secretNote, ClientHello, ServerHello, Certificate, CertVerify, ClientFinished, ServerFinished, ClientAccepts, ServerAccepts, ClientResume, ServerResume, Oops, ClientKeyExch}
 use Rattle.paper.specs.Generated.{Generated, Nil, step, exchange}
-use Rattle.paper.specs.Possible.{Fresh, hellos, handshake, verified, accepted, resumed, lost, Runs, Possible, sample, only-Spy, Sample}
+use Rattle.paper.specs.Possible.{Fresh, hellos, handshake, verified, accepted, resumed, Possible, sample, only-Spy, Sample}
 use Rattle.paper.proofs.Fresh.{above-nonce, above, above-all, unused-above}
 use Rattle.paper.proofs.Secret.{secret}
 use native.Mathlib.Omega.{arith}

@@ -2,9 +2,9 @@
 -- p is noted for B, who is not compromised: what stands under B's public key may hold anything.
 -- Assumes nothing.
 use Prim.Native.Nat.{ℕ}
-use mathlib.Core.Path.{_≡_, refl, subst}
+use mathlib.Core.Path.{_≡_, subst}
 use mathlib.Core.Logic.{_⊎_, inl, inr}
-use Rattle.paper.specs.Message.{agent, Authority, role, nonce, plain, PRF, key, pubK, priK, sessionK, invKey, msg, Agent, Number, Nonce, Key, Hash, Crypt, Pair}
+use Rattle.paper.specs.Message.{agent, Authority, nonce, plain, PRF, key, pubK, priK, sessionK, invKey, msg, Agent, Number, Nonce, Key, Hash, Crypt, Pair}
 use Rattle.paper.specs.Spy.{Analz, inj, fst, snd, decrypt, Synth, known, guessAgent, guessNumber, hash, pair, crypt}
 use Rattle.paper.specs.Rules.{cert}
 

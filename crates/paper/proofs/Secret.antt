@@ -2,22 +2,21 @@
 -- A session key is Safe too, so what is analysed is Safe, and the secret and what is made from it are not.
 -- Assumes nothing.
 use Prim.Native.Nat.{ℕ}
-use native.Mathlib.Decide.{ℕ-discrete}
-use mathlib.Core.Path.{_≡_, refl, subst, sym}
+use mathlib.Core.Path.{_≡_, refl, subst}
 use mathlib.Core.List.{[], _∷_}
-use mathlib.Core.Bool.{true, false, true≢false}
+use mathlib.Core.Bool.{true≢false}
 use mathlib.Core.Logic.{_⊎_, inl, inr}
-use Rattle.paper.specs.Message.{agent, Authority, Spy, role, nonce, plain, PRF, key, pubK, priK, sessionK, invKey, msg, Agent, Number, Nonce, Key, Hash, Crypt, Pair}
-use Rattle.paper.specs.Event.{event, trace, Says, Notes, In, here, there, Beginning, whole, earlier}
-use Rattle.paper.specs.Spy.{Starts, own, Spies, start, said, noted, Analz}
-use Rattle.paper.specs.Used.{Used, inSays, inNotes, Part, self, left, right, body}
-use Rattle.paper.specs.Rules.{secretNote, carried, cert, Step, Fake, SpyKeys, ClientHello, ServerHello, Certificate, CertVerify, ClientFinished, ServerFinished, ClientAccepts, ServerAccepts, ClientResume, ServerResume, Oops, Exchange, ClientKeyExch}
+use Rattle.paper.specs.Message.{agent, Authority, nonce, plain, PRF, key, pubK, msg, Nonce, Hash, Crypt}
+use Rattle.paper.specs.Event.{event, trace, Says, Notes, In, here, there, whole, earlier}
+use Rattle.paper.specs.Spy.{own, Spies, start, said, noted}
+use Rattle.paper.specs.Used.{Used, inSays, inNotes, self, left, right}
+use Rattle.paper.specs.Rules.{secretNote, carried, Step, Fake, SpyKeys, ClientHello, ServerHello, Certificate, CertVerify, ClientFinished, ServerFinished, ClientAccepts, ServerAccepts, ClientResume, ServerResume, Oops, Exchange, ClientKeyExch}
 use Rattle.paper.specs.Generated.{Generated, Nil, step, exchange}
 use Rattle.paper.specs.Secret.{Besides, before, besides, Secret}
-use Rattle.paper.proofs.Event.{In-cons, In-behind, Used-beginning, Spies-beginning}
+use Rattle.paper.proofs.Event.{In-behind, Used-beginning, Spies-beginning}
 use Rattle.paper.proofs.Steps.{no-step}
-use Rattle.paper.proofs.Carried.{carried-part, carried-valid, carried-safe, safe-carried}
-use Rattle.paper.proofs.Safe.{Safe, SafeNonce, SafeKey, Valid, analz-safe, synth-safe}
+use Rattle.paper.proofs.Carried.{carried-valid, carried-safe, safe-carried}
+use Rattle.paper.proofs.Safe.{Safe, SafeNonce, Valid, analz-safe, synth-safe}
 
 module _ (bad : agent → Type 0) (A B : agent) (p : ℕ) where
   abbrev Note : event

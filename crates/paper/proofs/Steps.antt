@@ -2,10 +2,10 @@
 -- Assumes nothing.
 use Prim.Native.Nat.{ℕ}
 use mathlib.Core.Path.{_≡_, refl, ap}
-use mathlib.Core.List.{List, [], _∷_}
-use Rattle.paper.specs.Message.{agent, nonce, key, Crypt}
-use Rattle.paper.specs.Event.{event, trace, Says, Notes, Beginning, whole, earlier}
-use Rattle.paper.specs.Rules.{secretNote, carried, Step, Exchange, ClientKeyExch}
+use mathlib.Core.List.{List, _∷_}
+use Rattle.paper.specs.Message.{agent, nonce}
+use Rattle.paper.specs.Event.{event, trace, Notes, Beginning, whole, earlier}
+use Rattle.paper.specs.Rules.{secretNote, Step, Exchange, ClientKeyExch}
 use Rattle.paper.specs.Generated.{Generated, Nil, step, exchange}
 use Rattle.paper.specs.Steps.{FromExchange, NoteFromExchange, falls, OneWay}
 

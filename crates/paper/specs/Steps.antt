@@ -3,7 +3,7 @@ use Prim.Native.Nat.{ℕ}
 use mathlib.Core.Path.{_≡_}
 use mathlib.Core.List.{List, [], _∷_}
 use Rattle.paper.specs.Message.{agent, nonce, key, Crypt}
-use Rattle.paper.specs.Event.{event, trace, Says, Notes, Beginning}
+use Rattle.paper.specs.Event.{trace, Says, Notes, Beginning}
 use Rattle.paper.specs.Rules.{secretNote, carried, Exchange}
 use Rattle.paper.specs.Generated.{Generated, Nil, step, exchange}
 
