@@ -1,0 +1,25 @@
+-- A conjunction of tests that passes: each of them passes.
+-- Assumes nothing.
+use mathlib.Core.Bool.{Bool, true, false, _&&_, true≢false}
+use mathlib.Core.Path.{_≡_, refl, sym}
+
+pub both : (a b : Bool) → (a && b) ≡ true → (a ≡ true) × (b ≡ true)
+both true b e = (refl, e)
+both false b e = absurd (true≢false (sym e))
+
+pub both3 : (a b c : Bool) → (a && b && c) ≡ true → (a ≡ true) × (b ≡ true) × (c ≡ true)
+both3 a b c e =
+    let h = both (a && b) c e in
+    let g = both a b (h .0) in
+    (g .0, g .1, h .1)
+
+pub both4 : (a b c d : Bool) → (a && b && c && d) ≡ true → (a ≡ true) × (b ≡ true) × (c ≡ true) × (d ≡ true)
+both4 a b c d e =
+    let h = both (a && b && c) d e in
+    let g = both3 a b c (h .0) in
+    (g .0, g .1, g .2, h .1)
+
+-- a test that cannot pass fails
+pub refuted : (b : Bool) → ¬ (b ≡ true) → b ≡ false
+refuted true n = absurd (n refl)
+refuted false n = refl

@@ -1,0 +1,15 @@
+use Rattle.trace.specs.Events.{eventOf}
+use mathlib.Core.Path.{_∙_, ap}
+use borrow.Author.Needs.{needs}
+use Rattle.trace.proofs.event_at.Statement.{statement}
+use Rattle.trace.proofs.event_at.Tie as tie
+use Rattle.trace.proofs.event_at.Reads as reads
+use Rattle.trace.proofs.event_at.Lts as lts
+use Rattle.trace.proofs.events.event_of.Reads as event-of-reads
+use Rattle.trace.proofs.events.parts_at.Reads as parts-at-reads
+
+returns : tie.Need-returns
+returns c = c .event-of .ensures ∙ ap eventOf (c .before .parts-at .ensures)
+
+pub event-at-spec : {M : Type 1} → statement M
+event-at-spec = tie.close (tie.spec (λ c κs. search needs) (λ c κs. search needs) returns)

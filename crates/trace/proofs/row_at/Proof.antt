@@ -1,0 +1,15 @@
+use Rattle.trace.specs.Rows.{rowOf}
+use mathlib.Core.Path.{_∙_, ap}
+use borrow.Author.Needs.{needs}
+use Rattle.trace.proofs.row_at.Statement.{statement}
+use Rattle.trace.proofs.row_at.Tie as tie
+use Rattle.trace.proofs.row_at.Reads as reads
+use Rattle.trace.proofs.row_at.Lts as lts
+use Rattle.trace.proofs.rows.fields_at.Reads as fields-at-reads
+use Rattle.trace.proofs.rows.row_of.Reads as row-of-reads
+
+returns : tie.Need-returns
+returns c = c .row-of .ensures ∙ ap rowOf (c .before .fields-at .ensures)
+
+pub row-at-spec : {M : Type 1} → statement M
+row-at-spec = tie.close (tie.spec (λ c κs. search needs) (λ c κs. search needs) returns)

@@ -1,0 +1,12 @@
+use borrow.Author.Needs.{needs}
+use Rattle.trace.proofs.rows.key_below.Statement.{statement}
+use Rattle.trace.proofs.rows.key_below.Tie as tie
+use Rattle.trace.proofs.rows.key_below.Reads as reads
+use Rattle.trace.proofs.rows.key_below.Lts as lts
+use Rattle.trace.proofs.rows.kind_at.Reads as kind-at-reads
+
+returns : tie.Need-returns
+returns c = cc
+
+pub key-below-spec : {M : Type 1} → statement M
+key-below-spec = tie.close (tie.spec (λ c κs. search needs) returns)

@@ -1,0 +1,17 @@
+use borrow.Author.Tests.{eq-eqb, ne-eqb, lt-ltb, le-ltb}
+use borrow.Author.Needs.{needs}
+use Rattle.trace.proofs.rows.key_line.Statement.{statement}
+use Rattle.trace.proofs.rows.key_line.Tie as tie
+use Rattle.trace.proofs.rows.key_line.Reads as reads
+use Rattle.trace.proofs.rows.key_line.Lts as lts
+use Rattle.trace.proofs.rows.agent_line.Reads as agent-line-reads
+use Rattle.trace.proofs.rows.three_nonces.Reads as three-nonces-reads
+
+returns : tie.Need-returns
+returns c = rw (c .agent-line .ensures, lt-ltb _ _ (c .before .if1 .taken))
+
+returns-2 : tie.Need-returns-2
+returns-2 c = rw (c .before .three-nonces .ensures, le-ltb _ _ (c .before .before .if1 .left))
+
+pub key-line-spec : {M : Type 1} → statement M
+key-line-spec = tie.close (tie.spec (λ c κs. search needs) returns (λ c κs. search needs) returns-2)

@@ -1,0 +1,17 @@
+use borrow.Author.Tests.{eq-eqb, ne-eqb}
+use borrow.Author.Needs.{needs}
+use Rattle.trace.proofs.rows.nonce_line.Statement.{statement}
+use Rattle.trace.proofs.rows.nonce_line.Tie as tie
+use Rattle.trace.proofs.rows.nonce_line.Reads as reads
+use Rattle.trace.proofs.rows.nonce_line.Lts as lts
+use Rattle.trace.proofs.rows.three_nonces.Reads as three-nonces-reads
+use Rattle.trace.proofs.rows.value_line.Reads as value-line-reads
+
+returns : tie.Need-returns
+returns c = rw (c .value-line .ensures, eq-eqb _ _ (c .before .if1 .taken))
+
+returns-2 : tie.Need-returns-2
+returns-2 c = rw (c .before .three-nonces .ensures, ne-eqb _ _ (c .before .before .if1 .left))
+
+pub nonce-line-spec : {M : Type 1} → statement M
+nonce-line-spec = tie.close (tie.spec (λ c κs. search needs) returns (λ c κs. search needs) returns-2)

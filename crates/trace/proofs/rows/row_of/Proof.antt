@@ -1,0 +1,69 @@
+use borrow.Author.Tests.{ne-eqb}
+use Rattle.trace.specs.Rows.{rowOf}
+use borrow.Author.Needs.{needs}
+use Rattle.trace.proofs.rows.row_of.Statement.{statement}
+use Rattle.trace.proofs.rows.row_of.Tie as tie
+use Rattle.trace.proofs.rows.row_of.Reads as reads
+use Rattle.trace.proofs.rows.row_of.Lts as lts
+use Rattle.trace.proofs.rows.role_of.Reads as role-of-reads
+
+returns : tie.Need-returns
+unfolding rowOf
+returns c = rw (c .match .keys1)
+
+returns-2 : tie.Need-returns-2
+unfolding rowOf
+returns-2 c = rw (c .match .keys2)
+
+returns-3 : tie.Need-returns-3
+unfolding rowOf
+returns-3 c = rw (c .match .keys3)
+
+returns-4 : tie.Need-returns-4
+unfolding rowOf
+returns-4 c = rw (c .match .keys4)
+
+returns-5 : tie.Need-returns-5
+unfolding rowOf
+returns-5 c = rw (c .match .keys5)
+
+returns-6 : tie.Need-returns-6
+unfolding rowOf
+returns-6 c = rw (c .match .keys6)
+
+returns-7 : tie.Need-returns-7
+unfolding rowOf
+returns-7 c = rw (c .before .match .keys7, c .role-of .ensures)
+
+returns-8 : tie.Need-returns-8
+unfolding rowOf
+returns-8 c = rw (c .match .keys8)
+
+returns-9 : tie.Need-returns-9
+unfolding rowOf
+returns-9 c = rw (c .match .keys9)
+
+returns-10 : tie.Need-returns-10
+unfolding rowOf
+returns-10 c =
+    let k = c .match .rest in
+    simp
+    (ne-eqb _ _ (k .1), ne-eqb _ _ (k .0 .1), ne-eqb _ _ (k .0 .0 .1), ne-eqb _ _ (k .0 .0 .0 .1),
+      ne-eqb _ _ (k .0 .0 .0 .0 .1), ne-eqb _ _ (k .0 .0 .0 .0 .0 .1), ne-eqb _ _ (k .0 .0 .0 .0 .0 .0 .1),
+      ne-eqb _ _ (k .0 .0 .0 .0 .0 .0 .0 .1), ne-eqb _ _ (k .0 .0 .0 .0 .0 .0 .0 .0 .1))
+
+pub row-of-spec : {M : Type 1} → statement M
+row-of-spec =
+    tie.close
+    (tie.spec
+    (λ c κs. search needs)
+    returns
+    returns-2
+    returns-3
+    returns-4
+    returns-5
+    returns-6
+    returns-7
+    returns-8
+    returns-9
+    returns-10)

@@ -1,0 +1,18 @@
+// Bytes and words of the file. A byte past the end reads as 0, so a reader needs no bound.
+ghost use mathlib.Core.Path.{_≡_};
+ghost use Prim.Native.Nat.{_<_};
+ghost use Rattle.trace.specs.File.{byte, word};
+
+pub fn byte_at(file: &[u8], at: usize) -> u16
+    ensures { λ b. ⌜ (b ≡ byte (now (file .entry)) at) × (b < 256) ⌝ }
+{
+    if at < file.len() { file[at] as u16 } else { 0 }
+}
+
+// Positions stay far below where the next one could wrap.
+pub fn word_at(file: &[u8], at: usize) -> u16
+    requires { ⌜ at < 2000000 ⌝ }
+    ensures { λ w. ⌜ w ≡ word (now (file .entry)) at ⌝ }
+{
+    byte_at(file, at) + 256 * byte_at(file, at + 1)
+}

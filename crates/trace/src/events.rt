@@ -1,0 +1,54 @@
+// Events: the parts of each, what they have to hold, and what the event is.
+use super::bytes;
+use super::header::{header_of, AGENTS, ITEM, ROWS_AT};
+use super::{AgentNo, Event, RowNo};
+
+ghost use mathlib.Core.Path.{_≡_};
+ghost use Rattle.trace.specs.Events.{partsAt, eventFits, eventOf};
+
+pub struct Parts {
+    pub kind: u16,
+    pub sender: u16,
+    pub receiver: u16,
+    pub zero: u16,
+    pub row: u16,
+    pub rest: u16,
+}
+
+pub fn parts_at(file: &[u8], e: u16) -> Parts
+    ensures { λ p. ⌜ p ≡ partsAt (now (file .entry)) e ⌝ }
+{
+    let rows = header_of(file).rows;
+    let at = ROWS_AT + ITEM * (rows as usize) + ITEM * (e as usize);
+    Parts {
+        kind: bytes::byte_at(file, at),
+        sender: bytes::byte_at(file, at + 1),
+        receiver: bytes::byte_at(file, at + 2),
+        zero: bytes::byte_at(file, at + 3),
+        row: bytes::word_at(file, at + 4),
+        rest: bytes::word_at(file, at + 6),
+    }
+}
+
+// Whether the event's parts are in range, its zeros are zero and its row exists.
+pub fn event_fits(p: Parts, rows: u16) -> bool
+    ensures { λ b. ⌜ b ≡ eventFits p rows ⌝ }
+{
+    (p.kind <= 1)
+        & (p.sender < AGENTS)
+        & (p.receiver < AGENTS)
+        & ((p.kind == 0) | (p.receiver == 0))
+        & (p.zero == 0)
+        & (p.row < rows)
+        & (p.rest == 0)
+}
+
+pub fn event_of(p: Parts) -> Event
+    ensures { λ event. ⌜ event ≡ eventOf p ⌝ }
+{
+    if p.kind == 0 {
+        Event::Says(AgentNo(p.sender), AgentNo(p.receiver), RowNo(p.row))
+    } else {
+        Event::Notes(AgentNo(p.sender), RowNo(p.row))
+    }
+}
