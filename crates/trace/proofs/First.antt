@@ -57,7 +57,7 @@ module _ (p : ℕ → Bool) where
       go (inl l′) ih = rw (ih l′)
       go (inr e) ih = rw (← e, t) (or-right (any p i))
 
-bool-cases : (b : Bool) → (b ≡ true) ⊎ (b ≡ false)
+pub bool-cases : (b : Bool) → (b ≡ true) ⊎ (b ≡ false)
 bool-cases true = inl refl
 bool-cases false = inr refl
 

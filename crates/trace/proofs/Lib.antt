@@ -3,3 +3,9 @@ pub mod Both
 pub mod Lines
 pub mod Same
 pub mod Chain
+pub mod Refusal
+pub mod Told
+pub mod Fault
+pub mod Keeps
+pub mod Meaning
+pub mod Promised

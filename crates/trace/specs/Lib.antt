@@ -3,4 +3,7 @@ pub mod Rows
 pub mod Events
 pub mod First
 pub mod Refusal
+pub mod Fault
+pub mod Meaning
+pub mod Promises
 pub mod Chain

@@ -3,13 +3,17 @@
 mod bytes;
 mod events;
 mod header;
+mod parts;
 mod rows;
 mod search;
 
 ghost use mathlib.Core.Path.{_≡_};
+ghost use Prim.Native.Nat.{_≤_};
 ghost use Rattle.trace.specs.File.{rowsOf, eventsOf, compromisedIn};
 ghost use Rattle.trace.specs.Rows.{rowAt};
 ghost use Rattle.trace.specs.Events.{eventAt};
+ghost use Rattle.trace.specs.Fault.{Part, nothing, eventSpan, faultOf};
+ghost use Rattle.trace.specs.Refusal.{readItems, reading};
 
 // Numbers of rows, events and agents are kept apart, and so are the values of Numbers and Nonces.
 pub struct RowNo(pub u16);
@@ -60,6 +64,49 @@ pub enum Reading {
     Readable,
 }
 
+// The rows and events of a file whose contents part is right.
+fn read_items(file: &[u8], rows: u16, events: u16) -> Reading
+    requires { ⌜ rows ≤ 1024 ⌝ }
+    ensures { λ r. ⌜ r ≡ readItems (now (file .entry)) rows events ⌝ }
+{
+    let bad = search::first_bad_row(file, rows);
+    if bad < rows {
+        return Reading::Refused(Cause::BadRow(RowNo(bad)));
+    }
+    let repeated = search::first_repeated_row(file, rows);
+    if repeated < rows {
+        return Reading::Refused(Cause::RepeatedRow(RowNo(repeated)));
+    }
+    let event = search::first_bad_event(file, rows, events);
+    if event < events {
+        return Reading::Refused(Cause::BadEvent(EventNo(event)));
+    }
+    Reading::Readable
+}
+
+// Refused with its cause and place, or readable.
+pub fn read(file: &[u8]) -> Reading
+    ensures { λ r. ⌜ r ≡ reading (now (file .entry)) ⌝ }
+{
+    if file.len() < header::ROWS_AT {
+        return Reading::Refused(Cause::TooShort);
+    }
+    let h = header::header_of(file);
+    let version = header::wrong_version(h);
+    if version {
+        return Reading::Refused(Cause::WrongVersion);
+    }
+    let set = header::wrong_set(file);
+    if set {
+        return Reading::Refused(Cause::WrongSet);
+    }
+    let contents = header::wrong_contents(h, file.len());
+    if contents {
+        return Reading::Refused(Cause::WrongContents);
+    }
+    read_items(file, h.rows, h.events)
+}
+
 pub fn row_count(file: &[u8]) -> u16
     ensures { λ n. ⌜ n ≡ rowsOf (now (file .entry)) ⌝ }
 {
@@ -89,4 +136,35 @@ pub fn event_at(file: &[u8], e: EventNo) -> Event
     ensures { λ event. ⌜ event ≡ eventAt (now (file .entry)) (e .0) ⌝ }
 {
     events::event_of(events::parts_at(file, e.0))
+}
+
+// The empty part that starts at byte 0.
+pub fn no_part(file: &[u8]) -> &[u8]
+    ensures { λ part. ⌜ Part (file .entry) nothing part ⌝ }
+{
+    parts::empty_part(file)
+}
+
+// The eight bytes of an event, or no part where the file is too short for it.
+pub fn event_part(file: &[u8], e: EventNo) -> &[u8]
+    ensures { λ part. ⌜ Part (file .entry) (eventSpan (now (file .entry)) (e .0)) part ⌝ }
+{
+    parts::event_part(file, e.0)
+}
+
+// The eight bytes that a refusal names, or no part.
+pub fn part_at_fault(file: &[u8], cause: Cause) -> &[u8]
+    ensures { λ part. ⌜ Part (file .entry) (faultOf (now (file .entry)) cause) part ⌝ }
+{
+    match cause {
+        Cause::BadRow(r) => parts::row_part(file, r.0),
+        Cause::RepeatedRow(r) => parts::row_part(file, r.0),
+        Cause::BadEvent(e) => parts::event_part(file, e.0),
+        Cause::TooShort => parts::empty_part(file),
+        Cause::WrongVersion => parts::empty_part(file),
+        Cause::WrongSet => parts::empty_part(file),
+        Cause::WrongContents => parts::empty_part(file),
+        Cause::ShortBuffer => parts::empty_part(file),
+        Cause::TooManyEvents => parts::empty_part(file),
+    }
 }

@@ -1,0 +1,87 @@
+-- `reading`, case by case: the tests before one fail, and it passes.
+-- Assumes nothing.
+use Prim.Native.Nat.{ℕ, _+_, _*_, _<_, _≤_}
+use mathlib.Core.Bool.{Bool, true, false, _||_, not, true≢false}
+use mathlib.Core.List.{List}
+use mathlib.Core.Path.{_≡_, refl, sym, _∙_}
+use native.Mathlib.Omega.{arith}
+use lib.Dec.{ltb, eqb}
+use lib.ListN.{length}
+use borrow.Author.Tests.{lt-ltb, le-ltb, ltb-false, eqb-true, not-false}
+use Rattle.trace.specs.File.{rowsAt, headerOf, rowsOf, eventsOf, wrongVersion, wrongSet, wrongContents}
+use Rattle.trace.specs.First.{first}
+use Rattle.trace.specs.Refusal.{badRow, repeatedRow, badEvent, readItems, reading}
+use Rattle.trace.specs.declared.header.Header.{Header}
+use Rattle.trace.specs.declared.Cause.the-variants.{TooShort, WrongVersion, WrongSet, WrongContents, BadRow, RepeatedRow, BadEvent}
+use Rattle.trace.specs.declared.Reading.the-variants.{Refused, Readable}
+
+pub or-false : (a b : Bool) → (a || b) ≡ false → a ≡ false
+or-false true b e = e
+or-false false b e = refl
+
+pub or-false-right : (a b : Bool) → (a || b) ≡ false → b ≡ false
+or-false-right true b e = absurd (true≢false e)
+or-false-right false b e = e
+
+-- contents that are right have few rows and few events
+module _ (h : Header) (len : ℕ) (right : wrongContents h len ≡ false) where
+  pub whole-length : len ≡ rowsAt + 8 * h .rows + 8 * h .events
+  whole-length =
+      eqb-true len _
+      (not-false _
+      (or-false-right
+      (ltb 1024 (h .rows) || ltb 512 (h .events) || not (eqb (h .«rows_at») rowsAt) || not (eqb (h .«events_at») (rowsAt + 8 * h .rows)))
+      _ right))
+
+  few : (ltb 1024 (h .rows) || ltb 512 (h .events)) ≡ false
+  few = or-false _ _ (or-false _ _ (or-false _ _ right))
+
+  pub few-rows : h .rows ≤ 1024
+  few-rows = ltb-false _ _ (or-false _ _ few)
+
+  pub few-events : h .events ≤ 512
+  few-events = ltb-false _ _ (or-false-right (ltb 1024 (h .rows)) _ few)
+
+module _ (file : List ℕ) where
+  pub reading-short : length file < rowsAt → reading file ≡ Refused TooShort
+  unfolding reading
+  reading-short l = simp (lt-ltb (length file) rowsAt l)
+
+  module _ (long : rowsAt ≤ length file) where
+    pub reading-version : wrongVersion (headerOf file) ≡ true → reading file ≡ Refused WrongVersion
+    unfolding reading
+    reading-version v = simp (le-ltb (length file) rowsAt long, v)
+
+    module _ (v : wrongVersion (headerOf file) ≡ false) where
+      pub reading-set : wrongSet file ≡ true → reading file ≡ Refused WrongSet
+      unfolding reading
+      reading-set s = simp (le-ltb (length file) rowsAt long, v, s)
+
+      module _ (s : wrongSet file ≡ false) where
+        pub reading-contents : wrongContents (headerOf file) (length file) ≡ true → reading file ≡ Refused WrongContents
+        unfolding reading
+        reading-contents w = simp (le-ltb (length file) rowsAt long, v, s, w)
+
+        pub reading-items : wrongContents (headerOf file) (length file) ≡ false →
+          reading file ≡ readItems file (rowsOf file) (eventsOf file)
+        unfolding reading
+        reading-items w = simp (le-ltb (length file) rowsAt long, v, s, w)
+
+  module _ (rows events bad : ℕ) (is-bad : bad ≡ first (badRow file) rows) where
+    pub items-row : bad < rows → readItems file rows events ≡ Refused (BadRow (record { 0 = bad }))
+    unfolding readItems
+    items-row l = simp (← is-bad, lt-ltb bad rows l)
+
+    module _ (repeat : ℕ) (fine : rows ≤ bad) (is-repeat : repeat ≡ first (repeatedRow file) rows) where
+      pub items-repeat : repeat < rows → readItems file rows events ≡ Refused (RepeatedRow (record { 0 = repeat }))
+      unfolding readItems
+      items-repeat l = simp (← is-bad, ← is-repeat, le-ltb bad rows fine, lt-ltb repeat rows l)
+
+      module _ (odd : ℕ) (apart : rows ≤ repeat) (is-odd : odd ≡ first (badEvent file rows) events) where
+        pub items-event : odd < events → readItems file rows events ≡ Refused (BadEvent (record { 0 = odd }))
+        unfolding readItems
+        items-event l = simp (← is-bad, ← is-repeat, ← is-odd, le-ltb bad rows fine, le-ltb repeat rows apart, lt-ltb odd events l)
+
+        pub items-readable : events ≤ odd → readItems file rows events ≡ Readable
+        unfolding readItems
+        items-readable l = simp (← is-bad, ← is-repeat, ← is-odd, le-ltb bad rows fine, le-ltb repeat rows apart, le-ltb odd events l)

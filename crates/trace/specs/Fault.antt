@@ -1,0 +1,51 @@
+-- The part at fault: eight bytes of the lent file, or the empty part that starts at byte 0. Document 01, the third question.
+use Prim.Native.Nat.{ℕ, _+_, _*_, _≤_}
+use mathlib.Core.List.{List}
+use mathlib.Core.Path.{_≡_}
+use lib.Dec.{leb}
+use lib.ListN.{length, take, drop}
+use denote.Ref.{RefT, now, ptr}
+use Rattle.trace.specs.File.{rowsAt}
+use Rattle.trace.specs.Rows.{choose}
+use Rattle.trace.specs.Events.{eventsAt}
+use Rattle.trace.specs.Refusal.{number, reading}
+use Rattle.trace.specs.declared.Reading.the-variants.{Refused}
+use Rattle.trace.specs.declared.Cause.{Cause}
+use Rattle.trace.specs.declared.Cause.the-variants.{TooShort, WrongVersion, WrongSet, WrongContents, BadRow, RepeatedRow, BadEvent, ShortBuffer, TooManyEvents}
+
+-- where a part starts and how long it is
+pub record Span : Type 0 where
+  pub start : ℕ
+  pub size : ℕ
+
+abbrev pub nothing : Span
+nothing = record { start = 0; size = 0 }
+
+abbrev pub eightAt : List ℕ → ℕ → Span
+eightAt file at = choose (leb (at + 8) (length file)) (record { start = at; size = 8 }) nothing
+
+abbrev pub rowSpan : List ℕ → ℕ → Span
+rowSpan file r = eightAt file (rowsAt + 8 * r)
+
+abbrev pub eventSpan : List ℕ → ℕ → Span
+eventSpan file e = eightAt file (eventsAt file + 8 * e)
+
+abbrev pub faultOf : List ℕ → Cause → Span
+faultOf file TooShort = nothing
+faultOf file WrongVersion = nothing
+faultOf file WrongSet = nothing
+faultOf file WrongContents = nothing
+faultOf file (BadRow r) = rowSpan file (r .0)
+faultOf file (RepeatedRow r) = rowSpan file (r .0)
+faultOf file (BadEvent e) = eventSpan file (e .0)
+faultOf file ShortBuffer = nothing
+faultOf file TooManyEvents = nothing
+
+-- a part of a file: what it holds, and where it stands
+pub record Part (file : RefT (List ℕ)) (span : Span) (part : RefT (List ℕ)) : Type 0 where
+  pub holds : now part ≡ take (span .size) (drop (span .start) (now file))
+  pub stands : ptr part ≡ (ptr file .0, span .start + ptr file .1)
+
+-- refusals 5 to 7 name eight bytes of the file
+abbrev pub FaultsFit : Type 0
+FaultsFit = (file : List ℕ) (c : Cause) → reading file ≡ Refused c → 5 ≤ number c → faultOf file c .size ≡ 8
