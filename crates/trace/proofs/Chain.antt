@@ -24,7 +24,7 @@ reach-end nexts link s z (here e) = omega arith
 reach-end nexts link s z (further l r) = omega arith
 
 pub reach-next : (file nexts : List ℕ) (f : Fields) (link s : ℕ) →
-  ¬ (fieldsAt file (link - 1) ≡ f) → fieldsAt file s ≡ f → Reach nexts link s → Reach nexts (getD nexts (link - 1) 0) s
+    ¬ (fieldsAt file (link - 1) ≡ f) → fieldsAt file s ≡ f → Reach nexts link s → Reach nexts (getD nexts (link - 1) 0) s
 reach-next file nexts f link s other e (here q) =
     let q′ : link - 1 ≡ s = omega arith in
     absurd (other (ap (fieldsAt file) q′ ∙ e))
@@ -50,7 +50,7 @@ chained-none file =
       nexts-room = length-replicate {A = ℕ} 1024 0;
       down = λ j. rw (zeros 1024 j) (omega arith);
       low = λ h. rw (zeros 1024 h) (omega arith);
-      linked = λ s l. absurd (omega arith)
+      linked = λ s l. absurd (omega arith);
     }
 
 module _ (nexts : List ℕ) (r head : ℕ) where
@@ -69,7 +69,7 @@ module _ (file heads nexts : List ℕ) (r h : ℕ) (bucket : h ≡ bucketOf (fie
 
   -- a row with these fields is on the chain of its bucket
   not-same : Searched file nexts (getD heads h 0) (fieldsAt file r) false → (s : ℕ) → s < r →
-    ¬ (sameFields (fieldsAt file s) (fieldsAt file r) ≡ true)
+      ¬ (sameFields (fieldsAt file s) (fieldsAt file r) ≡ true)
   not-same found s l e =
       let q : fieldsAt file s ≡ fieldsAt file r = same-equal _ _ e in
       let b : bucketOf (fieldsAt file s) ≡ h = ap bucketOf q ∙ sym bucket in
@@ -128,7 +128,7 @@ module _ (file heads nexts : List ℕ) (r h : ℕ) (bucket : h ≡ bucketOf (fie
           down = λ j. down′ j (ℕ-discrete j r);
           low = λ k. low′ k (ℕ-discrete k h);
           linked = λ s l.
-            ⊎-elim (λ (l′ : s < r). old-linked _ s (c .linked s l′) (ℕ-discrete _ h))
-            (λ (e : s ≡ r). new-linked _ s (ap (λ (k : ℕ). bucketOf (fieldsAt file k)) e ∙ sym bucket) e)
-            (lt-suc s r (rw add-one at l))
+              ⊎-elim (λ (l′ : s < r). old-linked _ s (c .linked s l′) (ℕ-discrete _ h))
+              (λ (e : s ≡ r). new-linked _ s (ap (λ (k : ℕ). bucketOf (fieldsAt file k)) e ∙ sym bucket) e)
+              (lt-suc s r (rw add-one at l));
         }

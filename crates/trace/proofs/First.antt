@@ -1,11 +1,11 @@
 -- `first` is the lowest number that the test finds, and `any` says whether there is one.
 -- Assumes nothing.
-use Prim.Native.Nat.{ℕ, zero, suc, _<_, _≤_}
+use Prim.Native.Nat.{ℕ, zero, suc, _<_}
 use native.Mathlib.Omega.{arith}
 use native.Mathlib.Decide.{decLt}
 use mathlib.Core.Bool.{Bool, true, false, true≢false, _||_}
 use mathlib.Core.Logic.{_⊎_, inl, inr, ⊎-elim}
-use mathlib.Core.Path.{_≡_, refl, sym, _∙_, ap}
+use mathlib.Core.Path.{_≡_, refl, sym, _∙_}
 use lib.Dec.{ltb}
 use borrow.Author.Tests.{lt-ltb, le-ltb}
 use Rattle.trace.specs.Rows.{choose}
@@ -32,7 +32,7 @@ module _ (p : ℕ → Bool) where
   first-found (suc n) i l h t = go (lt-suc i n l) (λ (l′ : i < n). first-found n i l′ h t)
     where
       go : (i < n) ⊎ (i ≡ n) → ((i < n) → first p n ≡ i) →
-        choose (ltb (first p n) n) (first p n) (choose (p n) n (suc n)) ≡ i
+          choose (ltb (first p n) n) (first p n) (choose (p n) n (suc n)) ≡ i
       go (inl l′) ih = rw (ih l′, lt-ltb i n l′)
       go (inr e) ih =
           let none : first p n ≡ n = first-none n (λ k k<. h k (omega arith)) in
@@ -64,13 +64,13 @@ bool-cases false = inr refl
 -- either some number is the lowest that the test finds, or it finds none
 module _ (p : ℕ → Bool) where
   pub find : (n : ℕ) →
-    ((k : ℕ) × (k < n) × (p k ≡ true) × ((j : ℕ) → j < k → p j ≡ false)) ⊎ ((k : ℕ) → k < n → p k ≡ false)
+      ((k : ℕ) × (k < n) × (p k ≡ true) × ((j : ℕ) → j < k → p j ≡ false)) ⊎ ((k : ℕ) → k < n → p k ≡ false)
   find zero = inr (λ k l. absurd (omega arith))
   find (suc n) = go (find n) (bool-cases (p n))
     where
       go : ((k : ℕ) × (k < n) × (p k ≡ true) × ((j : ℕ) → j < k → p j ≡ false)) ⊎ ((k : ℕ) → k < n → p k ≡ false) →
-        (p n ≡ true) ⊎ (p n ≡ false) →
-        ((k : ℕ) × (k < suc n) × (p k ≡ true) × ((j : ℕ) → j < k → p j ≡ false)) ⊎ ((k : ℕ) → k < suc n → p k ≡ false)
+          (p n ≡ true) ⊎ (p n ≡ false) →
+          ((k : ℕ) × (k < suc n) × (p k ≡ true) × ((j : ℕ) → j < k → p j ≡ false)) ⊎ ((k : ℕ) → k < suc n → p k ≡ false)
       go (inl (k, l, t, h)) b = inl (k, omega arith, t, h)
       go (inr h) (inl t) = inl (n, omega arith, t, h)
       go (inr h) (inr f) = inr (λ k l. ⊎-elim (h k) (λ e. rw e f) (lt-suc k n l))
@@ -79,6 +79,6 @@ module _ (p : ℕ → Bool) where
   any-inv n e = go (find n)
     where
       go : ((k : ℕ) × (k < n) × (p k ≡ true) × ((j : ℕ) → j < k → p j ≡ false)) ⊎ ((k : ℕ) → k < n → p k ≡ false) →
-        (k : ℕ) × (k < n) × (p k ≡ true)
+          (k : ℕ) × (k < n) × (p k ≡ true)
       go (inl (k, l, t, h)) = (k, l, t)
       go (inr h) = absurd (true≢false (sym e ∙ any-none p n h))

@@ -1,9 +1,9 @@
 -- A row that passes its kind's test keeps its kind's line.
 -- Assumes nothing.
 use Prim.Native.Nat.{ℕ, zero, suc, _<_, _≤_}
-use mathlib.Core.Bool.{Bool, true, false, true≢false, _&&_}
+use mathlib.Core.Bool.{true, true≢false}
 use mathlib.Core.List.{List}
-use mathlib.Core.Path.{_≡_, refl, sym, _∙_, ap, subst}
+use mathlib.Core.Path.{_≡_, refl, sym, _∙_, ap}
 use native.Mathlib.Omega.{arith}
 use native.Mathlib.Decide.{ℕ-discrete}
 use lib.Dec.{eqb, ltb, leb}
@@ -84,7 +84,7 @@ module _ (file : List ℕ) (r : ℕ) where
       let h = both3 (ltb x r) (leb 2 (kindAt file x)) (leb (kindAt file x) 3) e in
       record {
         below = ltb-true x r (h .0);
-        kind = nonce-at (fieldsAt file x) (ℕ-discrete _ 2) (leb-true 2 _ (h .1)) (leb-true _ 3 (h .2))
+        kind = nonce-at (fieldsAt file x) (ℕ-discrete _ 2) (leb-true 2 _ (h .1)) (leb-true _ 3 (h .2));
       }
 
   key-kept : (x : ℕ) → keyBelow file r x ≡ true → KeyBelow file r (record { 0 = x })
@@ -92,7 +92,7 @@ module _ (file : List ℕ) (r : ℕ) where
       let h = both3 (ltb x r) (leb 4 (kindAt file x)) (leb (kindAt file x) 6) e in
       record {
         below = ltb-true x r (h .0);
-        kind = key-at (fieldsAt file x) (ℕ-discrete _ 4) (ℕ-discrete _ 5) (leb-true 4 _ (h .1)) (leb-true _ 6 (h .2))
+        kind = key-at (fieldsAt file x) (ℕ-discrete _ 4) (ℕ-discrete _ 5) (leb-true 4 _ (h .1)) (leb-true _ 6 (h .2));
       }
 
   module _ (f : Fields) where
@@ -155,7 +155,7 @@ module _ (file : List ℕ) (r : ℕ) where
     Kept = Keeps file r (rowOf f) × (f ≡ fieldsOf (rowOf f))
 
     five : {k o a b c : ℕ} → f .kind ≡ k → f .role ≡ o → f .first ≡ a → f .second ≡ b → f .third ≡ c →
-      f ≡ record { kind = k; role = o; first = a; second = b; third = c }
+        f ≡ record { kind = k; role = o; first = a; second = b; third = c }
     five pk po pa pb pc = λ i. record { kind = pk i; role = po i; first = pa i; second = pb i; third = pc i }
 
     made : (R : Row) → rowOf f ≡ R → Keeps file r R → f ≡ fieldsOf R → Kept

@@ -1,6 +1,6 @@
 -- What `lineOf` and `rowOf` are at each kind: the tests before it fail, and its own passes.
 -- Assumes nothing.
-use Prim.Native.Nat.{ℕ, _≤_, _<_}
+use Prim.Native.Nat.{ℕ, _≤_}
 use mathlib.Core.Bool.{false}
 use mathlib.Core.List.{List}
 use mathlib.Core.Path.{_≡_}
@@ -8,7 +8,6 @@ use native.Mathlib.Omega.{arith}
 use borrow.Author.Tests.{ne-eqb, le-leb, lt-leb}
 use Rattle.trace.specs.Rows.{agentLine, valueLine, nonceLine, keyLine, hashLine, cryptLine, pairLine, lineOf, roleOf, rowOf}
 use Rattle.trace.specs.declared.rows.Fields.{Fields}
-use Rattle.trace.specs.declared.Row.{Row}
 use Rattle.trace.specs.declared.Row.the-variants.{Agent, Number, Nonce, Prf, PublicKey, PrivateKey, SessionKey, Hash, Crypt, Pair}
 
 module _ (file : List ℕ) (r : ℕ) (f : Fields) where
@@ -45,9 +44,15 @@ module _ (file : List ℕ) (r : ℕ) (f : Fields) where
   pub line-none : 7 ≤ f .kind → ¬ (f .kind ≡ 7) → ¬ (f .kind ≡ 8) → ¬ (f .kind ≡ 9) → lineOf file r f ≡ false
   unfolding lineOf
   line-none lo n7 n8 n9 =
-      simp
-      (ne-eqb (f .kind) 0 (omega arith), ne-eqb (f .kind) 1 (omega arith), lt-leb (f .kind) 3 (omega arith),
-        lt-leb (f .kind) 6 lo, ne-eqb (f .kind) 7 n7, ne-eqb (f .kind) 8 n8, ne-eqb (f .kind) 9 n9)
+      simp (
+        ne-eqb (f .kind) 0 (omega arith),
+        ne-eqb (f .kind) 1 (omega arith),
+        lt-leb (f .kind) 3 (omega arith),
+        lt-leb (f .kind) 6 lo,
+        ne-eqb (f .kind) 7 n7,
+        ne-eqb (f .kind) 8 n8,
+        ne-eqb (f .kind) 9 n9,
+      )
 
 module _ (f : Fields) where
   pub row-agent : f .kind ≡ 0 → rowOf f ≡ Agent (record { 0 = f .first })

@@ -1,16 +1,15 @@
 -- Messages of rows that keep their lines: each unfolds by its kind, and equal ones have equal row numbers.
 -- Assumes nothing.
-use Prim.Native.Nat.{ℕ, zero, suc, _<_, _≤_}
-use mathlib.Core.Bool.{true, false, true≢false}
+use Prim.Native.Nat.{ℕ, zero, suc, _<_}
+use mathlib.Core.Bool.{true≢false}
 use mathlib.Core.List.{List, [], _∷_, _++_}
-use mathlib.Core.Logic.{_⊎_, inl, inr, ⊎-elim}
+use mathlib.Core.Logic.{_⊎_, inl, inr}
 use mathlib.Core.Path.{_≡_, refl, sym, _∙_, ap}
 use native.Mathlib.Omega.{arith}
-use native.Mathlib.Decide.{decLt}
-use lib.ListN.{getD, length, length-append, List·getD-append}
+use lib.ListN.{length, length-append, List·getD-append}
 use lib.Seq.{getD-at}
 use Rattle.paper.specs.Message as paper
-use Rattle.trace.specs.Rows.{rowAt, rowFits, fieldsAt}
+use Rattle.trace.specs.Rows.{rowAt}
 use Rattle.trace.specs.Meaning.{roleMeant, asNonce, asKey, meant, among, messages, message}
 use Rattle.trace.specs.Promises.{NonceRow, plain, prf, KeyRow, public, private, session, NonceBelow, KeyBelow, Keeps, agent, number, nonce, publicKey, privateKey, sessionKey, hash, crypt, pair, Unfolds, asAgent, asNumber, asPrf, asPublic, asPrivate, asSession, asHash, asCrypt, asPair}
 use Rattle.trace.specs.Promises as P
@@ -43,7 +42,7 @@ module _ (file : List ℕ) where
   among-below (suc n) x l = rw (messages-suc n) (go (lt-suc x n l) (λ (h : x < n). among-below n x h))
     where
       go : (x < n) ⊎ (x ≡ n) → (x < n → among (messages file n) x ≡ message file x) →
-        among (messages file n ++ (message file n ∷ [])) x ≡ message file x
+          among (messages file n ++ (message file n ∷ [])) x ≡ message file x
       go (inl h) ih = List·getD-append (messages file n) _ _ x (omega (arith, messages-length n)) ∙ ih h
       go (inr e) ih = rw e (getD-at (messages file n) (message file n) [] _ n (messages-length n))
 
@@ -88,11 +87,11 @@ module _ (file : List ℕ) where
   -- two rows with one message are one row, where that holds of the rows that they name
   module _ (r s : ℕ) (named : (x y : RowNo) → x .0 < r → y .0 < s → message file (x .0) ≡ message file (y .0) → x ≡ y) where
     nonces : {x y : RowNo} {N : paper.nonce} → NonceBelow file r x → NonceBelow file s y →
-      message file (x .0) ≡ paper.Nonce N → message file (y .0) ≡ paper.Nonce N → x ≡ y
+        message file (x .0) ≡ paper.Nonce N → message file (y .0) ≡ paper.Nonce N → x ≡ y
     nonces b c p q = named _ _ (b .below) (c .below) (p ∙ sym q)
 
     same-row : {R S : Row} {X : paper.msg} →
-      Keeps file r R → Keeps file s S → Unfolds (message file) R X → Unfolds (message file) S X → R ≡ S
+        Keeps file r R → Keeps file s S → Unfolds (message file) R X → Unfolds (message file) S X → R ≡ S
     same-row k l (asAgent p) (asAgent q) = ap (λ (n : ℕ). Agent (record { 0 = n })) (p ∙ sym q)
     same-row k l (asNumber p) (asNumber q) = ap (λ (n : ℕ). Number (record { 0 = n })) (p ∙ sym q)
     same-row k l (P.asNonce p) (P.asNonce q) = ap (λ (n : ℕ). Nonce (record { 0 = n })) (p ∙ sym q)
@@ -109,7 +108,7 @@ module _ (file : List ℕ) where
         λ i. Pair (named _ _ a a′ (p ∙ sym p′) i) (named _ _ b b′ (q ∙ sym q′) i)
 
   module _ (n : ℕ) (keeps : (r : ℕ) → r < n → Keeps file r (rowAt file r))
-    (apart : (r s : ℕ) → r < n → s < n → rowAt file r ≡ rowAt file s → r ≡ s) where
+      (apart : (r s : ℕ) → r < n → s < n → rowAt file r ≡ rowAt file s → r ≡ s) where
     -- by induction on a bound of both
     equal-rows : (k r s : ℕ) → r < k → s < k → r < n → s < n → message file r ≡ message file s → r ≡ s
     equal-rows zero r s lr ls nr ns e = absurd (omega arith)

@@ -1,22 +1,21 @@
 -- What a file that is not refused promises: none of the table's causes holds of it, so its rows keep their lines, no two are equal,
 -- and its events' parts exist. Assumes nothing.
-use Prim.Native.Nat.{ℕ, _<_, _≤_}
+use Prim.Native.Nat.{ℕ, _<_}
 use mathlib.Core.Bool.{Bool, true, false, true≢false, not, _&&_, _||_}
 use mathlib.Core.List.{List}
-use mathlib.Core.Logic.{_⊎_, inl, inr, ⊎-elim}
-use mathlib.Core.Path.{_≡_, refl, sym, _∙_, ap, subst}
+use mathlib.Core.Logic.{_⊎_, inl, inr}
+use mathlib.Core.Path.{_≡_, sym, _∙_, ap}
 use native.Mathlib.Omega.{arith}
-use native.Mathlib.Decide.{decLt, ℕ-discrete}
+use native.Mathlib.Decide.{ℕ-discrete}
 use lib.Dec.{eqb, ltb, leb}
 use lib.ListN.{length}
-use borrow.Author.Tests.{not-true, not-false, ltb-true, eq-eqb, ne-eqb}
+use borrow.Author.Tests.{not-false, ltb-true, eq-eqb, ne-eqb}
 use Rattle.paper.specs.Message as paper
 use Rattle.trace.specs.File.{headerOf, rowsOf, eventsOf, compromisedIn, wrongSet, wrongContents, agentLimit}
 use Rattle.trace.specs.Rows.{fieldsAt, rowFits, rowAt}
-use Rattle.trace.specs.Events.{partsAt, eventFits, eventOf, eventAt}
-use Rattle.trace.specs.Refusal.{badRow, repeatedRow, badEvent, Lowest, Wrong, set, contents, row, repeated, event, Told, refused, readable, reading}
-use Rattle.trace.specs.Meaning.{message, bad}
-use Rattle.trace.specs.Promises.{Keeps, Exists, says, notes, Promised, Promises, KeptApart}
+use Rattle.trace.specs.Events.{partsAt, eventFits, eventOf}
+use Rattle.trace.specs.Refusal.{badRow, repeatedRow, badEvent, Lowest, Wrong, set, contents, row, repeated, event, Told, readable}
+use Rattle.trace.specs.Promises.{Exists, says, notes, Promised, Promises, KeptApart}
 use Rattle.trace.specs.declared.Cause.{Cause}
 use Rattle.trace.specs.declared.events.Parts.{Parts}
 use Rattle.trace.specs.declared.Reading.the-variants.{Readable}
@@ -42,7 +41,7 @@ none-lowest p n no-lowest k l = go (find p n)
 
 -- an event that fits has agents and a row that exist
 agents-and-row : (p : Parts) (rows : ℕ) → eventFits p rows ≡ true →
-  (p .sender < agentLimit) × (p .receiver < agentLimit) × (p .row < rows)
+    (p .sender < agentLimit) × (p .receiver < agentLimit) × (p .row < rows)
 agents-and-row p rows t =
     let a = leb (p .kind) 1 in
     let b = ltb (p .sender) agentLimit in
@@ -83,7 +82,7 @@ module _ (file : List ℕ) (clean : (c : Cause) → ¬ Wrong file c) where
   rows-apart : (r s : ℕ) → r < rowsOf file → s < rowsOf file → rowAt file r ≡ rowAt file s → r ≡ s
   rows-apart r s lr ls e =
       let q : fieldsAt file r ≡ fieldsAt file s =
-        row-shows file r (rows-fit r lr) ∙ ap fieldsOf e ∙ sym (row-shows file s (rows-fit s ls)) in
+      row-shows file r (rows-fit r lr) ∙ ap fieldsOf e ∙ sym (row-shows file s (rows-fit s ls)) in
       let n = not-below r s ls q in
       let m = not-below s r lr (sym q) in
       omega arith
@@ -97,10 +96,10 @@ module _ (file : List ℕ) (clean : (c : Cause) → ¬ Wrong file c) where
         authority-good = λ b. true≢false (sym b ∙ or-false-right (not (compromisedIn file 0)) _ right-set);
         keeps = λ r l. row-keeps file r (rows-fit r l);
         exists = λ e l.
-          exists-parts file (partsAt file e) (ℕ-discrete _ 0)
-          (not-false _ (none-lowest (badEvent file (rowsOf file)) (eventsOf file) (λ k h. clean _ (event h)) e l));
+            exists-parts file (partsAt file e) (ℕ-discrete _ 0)
+            (not-false _ (none-lowest (badEvent file (rowsOf file)) (eventsOf file) (λ k h. clean _ (event h)) e l));
         unfolds = λ r l. row-unfolds file r (row-keeps file r (rows-fit r l));
-        apart = messages-apart file (rowsOf file) (λ r l. row-keeps file r (rows-fit r l)) rows-apart
+        apart = messages-apart file (rowsOf file) (λ r l. row-keeps file r (rows-fit r l)) rows-apart;
       }
 
 pub promises : Promises

@@ -3,8 +3,7 @@
 use Prim.Native.Nat.{ℕ, _+_, _*_, _<_, _≤_}
 use mathlib.Core.Bool.{Bool, true, false, _||_, not, true≢false}
 use mathlib.Core.List.{List}
-use mathlib.Core.Path.{_≡_, refl, sym, _∙_}
-use native.Mathlib.Omega.{arith}
+use mathlib.Core.Path.{_≡_, refl}
 use lib.Dec.{ltb, eqb}
 use lib.ListN.{length}
 use borrow.Author.Tests.{lt-ltb, le-ltb, ltb-false, eqb-true, not-false}
@@ -63,7 +62,7 @@ module _ (file : List ℕ) where
         reading-contents w = simp (le-ltb (length file) rowsAt long, v, s, w)
 
         pub reading-items : wrongContents (headerOf file) (length file) ≡ false →
-          reading file ≡ readItems file (rowsOf file) (eventsOf file)
+            reading file ≡ readItems file (rowsOf file) (eventsOf file)
         unfolding reading
         reading-items w = simp (le-ltb (length file) rowsAt long, v, s, w)
 

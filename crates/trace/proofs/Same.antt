@@ -26,9 +26,13 @@ same-equal f g e =
 
 self-same : (f : Fields) → sameFields f f ≡ true
 self-same f =
-    simp
-    (eq-eqb (f .kind) (f .kind) refl, eq-eqb (f .role) (f .role) refl, eq-eqb (f .first) (f .first) refl,
-      eq-eqb (f .second) (f .second) refl, eq-eqb (f .third) (f .third) refl)
+    simp (
+      eq-eqb (f .kind) (f .kind) refl,
+      eq-eqb (f .role) (f .role) refl,
+      eq-eqb (f .first) (f .first) refl,
+      eq-eqb (f .second) (f .second) refl,
+      eq-eqb (f .third) (f .third) refl,
+    )
 
 pub equal-same : (f g : Fields) → f ≡ g → sameFields f g ≡ true
 equal-same f g e = rw (← e) (self-same f)

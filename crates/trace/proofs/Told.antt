@@ -6,17 +6,17 @@ use mathlib.Core.List.{List}
 use mathlib.Core.Logic.{_⊎_, inl, inr}
 use mathlib.Core.Path.{_≡_, refl, sym, _∙_, ap}
 use native.Mathlib.Omega.{arith}
-use native.Mathlib.Decide.{decLt, ℕ-discrete}
+use native.Mathlib.Decide.{decLt}
 use lib.Dec.{eqb}
 use lib.ListN.{length}
 use Rattle.trace.specs.File.{rowsAt, headerOf, rowsOf, eventsOf, wrongVersion, wrongSet, wrongContents}
 use Rattle.trace.specs.First.{first}
 use Rattle.trace.specs.Rows.{choose}
-use Rattle.trace.specs.Refusal.{number, badRow, repeatedRow, badEvent, Lowest, Wrong, short, version, set, contents, row, repeated, event, Told, refused, readable, readItems, reading, Refusals}
+use Rattle.trace.specs.Refusal.{numberOf, badRow, repeatedRow, badEvent, Lowest, Wrong, short, version, set, contents, row, repeated, event, Told, refused, readable, readItems, reading, Refusals}
 use Rattle.trace.specs.declared.Cause.{Cause}
 use Rattle.trace.specs.declared.Cause.the-variants.{TooShort, WrongVersion, WrongSet, WrongContents, BadRow, RepeatedRow, BadEvent}
 use Rattle.trace.specs.declared.Reading.{Reading}
-use Rattle.trace.specs.declared.Reading.the-variants.{Refused, Readable}
+use Rattle.trace.specs.declared.Reading.the-variants.{Refused}
 use Rattle.trace.proofs.First.{find, first-found, first-none, bool-cases}
 use Rattle.trace.proofs.Both.{refuted}
 use Rattle.trace.proofs.Refusal.{reading-short, reading-version, reading-set, reading-contents, reading-items, items-row, items-repeat, items-event, items-readable}
@@ -36,7 +36,7 @@ module _ (file : List ℕ) where
       (choose (eqb k 6) (RepeatedRow (record { 0 = first (repeatedRow file) (rowsOf file) }))
       (BadEvent (record { 0 = first (badEvent file (rowsOf file)) (eventsOf file) })))))))
 
-  by-number : {c : Cause} → Wrong file c → c ≡ cause (number c)
+  by-number : {c : Cause} → Wrong file c → c ≡ cause (numberOf c)
   by-number (short l) = refl
   by-number (version e) = refl
   by-number (set e) = refl
@@ -45,9 +45,9 @@ module _ (file : List ℕ) where
   by-number (repeated l) = ap (λ (k : ℕ). RepeatedRow (record { 0 = k })) (lowest-first _ _ _ l)
   by-number (event l) = ap (λ (k : ℕ). BadEvent (record { 0 = k })) (lowest-first _ _ _ l)
 
-  one-cause : {c d : Cause} → Wrong file c → Wrong file d → ¬ (number d < number c) → ¬ (number c < number d) → c ≡ d
+  one-cause : {c d : Cause} → Wrong file c → Wrong file d → ¬ (numberOf d < numberOf c) → ¬ (numberOf c < numberOf d) → c ≡ d
   one-cause {c} {d} v w n m =
-      let e : number c ≡ number d = omega arith in
+      let e : numberOf c ≡ numberOf d = omega arith in
       by-number v ∙ ap cause e ∙ sym (by-number w)
 
   pub told-one : (r s : Reading) → Told file r → Told file s → r ≡ s
@@ -61,17 +61,17 @@ module _ (file : List ℕ) where
 
   -- no cause below a number, where the tests before it failed
   module _ (k : ℕ)
-    (long : 1 < k → rowsAt ≤ length file)
-    (v : 2 < k → wrongVersion (headerOf file) ≡ false)
-    (s : 3 < k → wrongSet file ≡ false)
-    (w : 4 < k → wrongContents (headerOf file) (length file) ≡ false)
-    (rows : 5 < k → None (badRow file) (rowsOf file))
-    (apart : 6 < k → None (repeatedRow file) (rowsOf file))
-    (events : 7 < k → None (badEvent file (rowsOf file)) (eventsOf file)) where
+      (long : 1 < k → rowsAt ≤ length file)
+      (v : 2 < k → wrongVersion (headerOf file) ≡ false)
+      (s : 3 < k → wrongSet file ≡ false)
+      (w : 4 < k → wrongContents (headerOf file) (length file) ≡ false)
+      (rows : 5 < k → None (badRow file) (rowsOf file))
+      (apart : 6 < k → None (repeatedRow file) (rowsOf file))
+      (events : 7 < k → None (badEvent file (rowsOf file)) (eventsOf file)) where
     clash : {b : Bool} → b ≡ true → b ≡ false → ⊥
     clash t f = true≢false (sym t ∙ f)
 
-    none-below : (d : Cause) → number d < k → ¬ Wrong file d
+    none-below : (d : Cause) → numberOf d < k → ¬ Wrong file d
     none-below d l (short h) = let m = long l in omega arith
     none-below d l (version e) = clash e (v l)
     none-below d l (set e) = clash e (s l)
@@ -80,7 +80,7 @@ module _ (file : List ℕ) where
     none-below d l (repeated h) = clash (h .holds) (apart l _ (h .below))
     none-below d l (event h) = clash (h .holds) (events l _ (h .below))
 
-  number-below : {c : Cause} → Wrong file c → number c < 8
+  number-below : {c : Cause} → Wrong file c → numberOf c < 8
   number-below (short h) = omega arith
   number-below (version e) = omega arith
   number-below (set e) = omega arith
@@ -97,7 +97,7 @@ module _ (file : List ℕ) where
   lowest p n k l t h = record { below = l; holds = t; lowest = λ j lj e. true≢false (sym e ∙ h j lj) }
 
   module _ (long : rowsAt ≤ length file) (v : wrongVersion (headerOf file) ≡ false) (s : wrongSet file ≡ false)
-    (w : wrongContents (headerOf file) (length file) ≡ false) where
+      (w : wrongContents (headerOf file) (length file) ≡ false) where
     items : reading file ≡ readItems file (rowsOf file) (eventsOf file)
     items = reading-items file long v s w
 
@@ -144,7 +144,7 @@ module _ (file : List ℕ) where
 
   module _ (long : rowsAt ≤ length file) where
     told-contents : wrongVersion (headerOf file) ≡ false → wrongSet file ≡ false →
-      Either (wrongContents (headerOf file) (length file)) → Told file (reading file)
+        Either (wrongContents (headerOf file) (length file)) → Told file (reading file)
     told-contents v s (inl w) =
         rw (reading-contents file long v s w)
         (refused (contents w)

@@ -20,7 +20,7 @@ partsAt file e =
       receiver = byte file (eventsAt file + 8 * e + 2);
       zero = byte file (eventsAt file + 8 * e + 3);
       row = word file (eventsAt file + 8 * e + 4);
-      rest = word file (eventsAt file + 8 * e + 6)
+      rest = word file (eventsAt file + 8 * e + 6);
     }
 
 abbrev pub eventFits : Parts → ℕ → Bool

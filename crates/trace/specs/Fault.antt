@@ -8,7 +8,7 @@ use denote.Ref.{RefT, now, ptr}
 use Rattle.trace.specs.File.{rowsAt}
 use Rattle.trace.specs.Rows.{choose}
 use Rattle.trace.specs.Events.{eventsAt}
-use Rattle.trace.specs.Refusal.{number, reading}
+use Rattle.trace.specs.Refusal.{numberOf, reading}
 use Rattle.trace.specs.declared.Reading.the-variants.{Refused}
 use Rattle.trace.specs.declared.Cause.{Cause}
 use Rattle.trace.specs.declared.Cause.the-variants.{TooShort, WrongVersion, WrongSet, WrongContents, BadRow, RepeatedRow, BadEvent, ShortBuffer, TooManyEvents}
@@ -48,4 +48,4 @@ pub record Part (file : RefT (List ℕ)) (span : Span) (part : RefT (List ℕ)) 
 
 -- refusals 5 to 7 name eight bytes of the file
 abbrev pub FaultsFit : Type 0
-FaultsFit = (file : List ℕ) (c : Cause) → reading file ≡ Refused c → 5 ≤ number c → faultOf file c .size ≡ 8
+FaultsFit = (file : List ℕ) (c : Cause) → reading file ≡ Refused c → 5 ≤ numberOf c → faultOf file c .size ≡ 8

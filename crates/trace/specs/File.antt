@@ -28,7 +28,7 @@ headerOf file =
       «rows_at» = word file 12;
       rows = word file 14;
       «events_at» = word file 16;
-      events = word file 18
+      events = word file 18;
     }
 
 abbrev pub rowsOf : List ℕ → ℕ

@@ -1,26 +1,20 @@
 -- The message of each row, over the paper's messages, and the trace of the first n events: document 01, "The trace file".
-use Prim.Native.Nat.{ℕ, zero, suc, _<_}
-use mathlib.Core.Bool.{Bool, true, false}
+use Prim.Native.Nat.{ℕ, zero, suc}
+use mathlib.Core.Bool.{true}
 use mathlib.Core.List.{List, [], _∷_, _++_}
 use mathlib.Core.Path.{_≡_}
 use lib.ListN.{getD}
 use Rattle.paper.specs.Message as paper
 use Rattle.paper.specs.Event as paper-event
-use Rattle.trace.specs.File.{rowsOf, agentLimit, compromisedIn}
+use Rattle.trace.specs.File.{compromisedIn}
 use Rattle.trace.specs.Rows.{rowAt}
 use Rattle.trace.specs.Events.{eventAt}
-use Rattle.trace.specs.Refusal.{reading}
-use Rattle.trace.specs.declared.AgentNo.{AgentNo}
-use Rattle.trace.specs.declared.RowNo.{RowNo}
-use Rattle.trace.specs.declared.NumberValue.{NumberValue}
-use Rattle.trace.specs.declared.NonceValue.{NonceValue}
 use Rattle.trace.specs.declared.Role.{Role}
 use Rattle.trace.specs.declared.Role.the-variants.{Client, Server}
 use Rattle.trace.specs.declared.Row.{Row}
 use Rattle.trace.specs.declared.Row.the-variants.{Agent, Number, Nonce, Prf, PublicKey, PrivateKey, SessionKey, Hash, Crypt, Pair}
 use Rattle.trace.specs.declared.Event.{Event}
 use Rattle.trace.specs.declared.Event.the-variants.{Says, Notes}
-use Rattle.trace.specs.declared.Reading.the-variants.{Readable}
 
 abbrev pub roleMeant : Role → paper.role
 roleMeant Client = paper.ClientRole

@@ -1,7 +1,6 @@
 -- What a file that is not refused promises: references lie below and are of the right kind, each row's message unfolds by its kind,
 -- and equal messages have equal row numbers. Document 01, "The trace file".
 use Prim.Native.Nat.{ℕ, _<_, _≤_}
-use mathlib.Core.Bool.{Bool, true, false}
 use mathlib.Core.List.{List}
 use mathlib.Core.Path.{_≡_}
 use Rattle.paper.specs.Message as paper
@@ -48,7 +47,7 @@ pub data Keeps (file : List ℕ) (r : ℕ) : Row → Type 0 where
   publicKey : {a : AgentNo} → a .0 < agentLimit → Keeps file r (PublicKey a)
   privateKey : {a : AgentNo} → a .0 < agentLimit → Keeps file r (PrivateKey a)
   sessionKey : {role : Role} {x y z : RowNo} →
-    NonceBelow file r x → NonceBelow file r y → NonceBelow file r z → Keeps file r (SessionKey role x y z)
+      NonceBelow file r x → NonceBelow file r y → NonceBelow file r z → Keeps file r (SessionKey role x y z)
   hash : {x : RowNo} → x .0 < r → Keeps file r (Hash x)
   crypt : {k x : RowNo} → KeyBelow file r k → x .0 < r → Keeps file r (Crypt k x)
   pair : {x y : RowNo} → x .0 < r → y .0 < r → Keeps file r (Pair x y)
@@ -59,16 +58,16 @@ pub data Unfolds (m : ℕ → paper.msg) : Row → paper.msg → Type 0 where
   asNumber : {v : NumberValue} {n : ℕ} → v .0 ≡ n → Unfolds m (Number v) (paper.Number n)
   asNonce : {v : NonceValue} {n : ℕ} → v .0 ≡ n → Unfolds m (Nonce v) (paper.Nonce (paper.plain n))
   asPrf : {s x y : RowNo} {S X Y : paper.nonce} →
-    m (s .0) ≡ paper.Nonce S → m (x .0) ≡ paper.Nonce X → m (y .0) ≡ paper.Nonce Y →
-    Unfolds m (Prf s x y) (paper.Nonce (paper.PRF S X Y))
+      m (s .0) ≡ paper.Nonce S → m (x .0) ≡ paper.Nonce X → m (y .0) ≡ paper.Nonce Y →
+      Unfolds m (Prf s x y) (paper.Nonce (paper.PRF S X Y))
   asPublic : {a : AgentNo} {A : paper.agent} → a .0 ≡ A → Unfolds m (PublicKey a) (paper.Key (paper.pubK A))
   asPrivate : {a : AgentNo} {A : paper.agent} → a .0 ≡ A → Unfolds m (PrivateKey a) (paper.Key (paper.priK A))
   asSession : {r : Role} {x y z : RowNo} {R : paper.role} {X Y Z : paper.nonce} →
-    roleMeant r ≡ R → m (x .0) ≡ paper.Nonce X → m (y .0) ≡ paper.Nonce Y → m (z .0) ≡ paper.Nonce Z →
-    Unfolds m (SessionKey r x y z) (paper.Key (paper.sessionK R X Y Z))
+      roleMeant r ≡ R → m (x .0) ≡ paper.Nonce X → m (y .0) ≡ paper.Nonce Y → m (z .0) ≡ paper.Nonce Z →
+      Unfolds m (SessionKey r x y z) (paper.Key (paper.sessionK R X Y Z))
   asHash : {x : RowNo} {X : paper.msg} → m (x .0) ≡ X → Unfolds m (Hash x) (paper.Hash X)
   asCrypt : {k x : RowNo} {K : paper.key} {X : paper.msg} →
-    m (k .0) ≡ paper.Key K → m (x .0) ≡ X → Unfolds m (Crypt k x) (paper.Crypt K X)
+      m (k .0) ≡ paper.Key K → m (x .0) ≡ X → Unfolds m (Crypt k x) (paper.Crypt K X)
   asPair : {x y : RowNo} {X Y : paper.msg} → m (x .0) ≡ X → m (y .0) ≡ Y → Unfolds m (Pair x y) (paper.Pair X Y)
 
 -- an event's agents and its row exist

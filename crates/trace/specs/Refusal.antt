@@ -16,27 +16,27 @@ use Rattle.trace.specs.declared.Reading.{Reading}
 use Rattle.trace.specs.declared.Reading.the-variants.{Refused, Readable}
 
 -- the number and the place of each cause
-abbrev pub number : Cause → ℕ
-number TooShort = 1
-number WrongVersion = 2
-number WrongSet = 3
-number WrongContents = 4
-number (BadRow r) = 5
-number (RepeatedRow r) = 6
-number (BadEvent e) = 7
-number ShortBuffer = 8
-number TooManyEvents = 9
+abbrev pub numberOf : Cause → ℕ
+numberOf TooShort = 1
+numberOf WrongVersion = 2
+numberOf WrongSet = 3
+numberOf WrongContents = 4
+numberOf (BadRow r) = 5
+numberOf (RepeatedRow r) = 6
+numberOf (BadEvent e) = 7
+numberOf ShortBuffer = 8
+numberOf TooManyEvents = 9
 
-abbrev pub place : Cause → ℕ
-place TooShort = 0
-place WrongVersion = 0
-place WrongSet = 0
-place WrongContents = 0
-place (BadRow r) = r .0
-place (RepeatedRow r) = r .0
-place (BadEvent e) = e .0
-place ShortBuffer = 0
-place TooManyEvents = 0
+abbrev pub placeOf : Cause → ℕ
+placeOf TooShort = 0
+placeOf WrongVersion = 0
+placeOf WrongSet = 0
+placeOf WrongContents = 0
+placeOf (BadRow r) = r .0
+placeOf (RepeatedRow r) = r .0
+placeOf (BadEvent e) = e .0
+placeOf ShortBuffer = 0
+placeOf TooManyEvents = 0
 
 -- a row equals an earlier one when its five numbers do
 abbrev pub sameFields : Fields → Fields → Bool
@@ -73,7 +73,7 @@ pub data Wrong (file : List ℕ) : Cause → Type 0 where
 
 -- .. and the lowest number applies
 pub data Told (file : List ℕ) : Reading → Type 0 where
-  refused : {c : Cause} → Wrong file c → ((d : Cause) → number d < number c → ¬ Wrong file d) → Told file (Refused c)
+  refused : {c : Cause} → Wrong file c → ((d : Cause) → numberOf d < numberOf c → ¬ Wrong file d) → Told file (Refused c)
   readable : ((c : Cause) → ¬ Wrong file c) → Told file Readable
 
 -- the same, computed

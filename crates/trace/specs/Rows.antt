@@ -21,7 +21,7 @@ fieldsAt file r =
       role = byte file (rowsAt + 8 * r + 1);
       first = word file (rowsAt + 8 * r + 2);
       second = word file (rowsAt + 8 * r + 4);
-      third = word file (rowsAt + 8 * r + 6)
+      third = word file (rowsAt + 8 * r + 6);
     }
 
 abbrev pub kindAt : List ℕ → ℕ → ℕ

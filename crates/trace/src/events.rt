@@ -1,8 +1,12 @@
 // Events: the parts of each, what they have to hold, and what the event is.
+use super::AgentNo;
+use super::Event;
+use super::RowNo;
 use super::bytes;
-use super::header::{header_of, AGENTS, ITEM, ROWS_AT};
-use super::{AgentNo, Event, RowNo};
-
+use super::header::AGENTS;
+use super::header::ITEM;
+use super::header::ROWS_AT;
+use super::header::header_of;
 ghost use mathlib.Core.Path.{_≡_};
 ghost use Rattle.trace.specs.Events.{partsAt, eventFits, eventOf};
 

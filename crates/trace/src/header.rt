@@ -1,15 +1,20 @@
 // The contents part, read in one place, and what it has to hold.
 use super::bytes;
-
 ghost use mathlib.Core.Path.{_≡_};
 ghost use Rattle.trace.specs.File.{headerOf, compromisedIn, wrongVersion, wrongSet, wrongContents};
 
 pub const ROWS_AT: usize = 20;
+
 pub const ITEM: usize = 8;
+
 pub const AGENTS: u16 = 64;
+
 const VERSION: u16 = 1;
+
 const SET_AT: usize = 4;
+
 const MOST_ROWS: u16 = 1024;
+
 const MOST_EVENTS: u16 = 512;
 
 pub struct Header {

@@ -13,13 +13,17 @@ ghost use Rattle.trace.specs.File.{rowsOf, eventsOf, compromisedIn};
 ghost use Rattle.trace.specs.Rows.{rowAt};
 ghost use Rattle.trace.specs.Events.{eventAt};
 ghost use Rattle.trace.specs.Fault.{Part, nothing, eventSpan, faultOf};
-ghost use Rattle.trace.specs.Refusal.{readItems, reading};
+ghost use Rattle.trace.specs.Refusal.{numberOf, placeOf, readItems, reading};
 
 // Numbers of rows, events and agents are kept apart, and so are the values of Numbers and Nonces.
 pub struct RowNo(pub u16);
+
 pub struct EventNo(pub u16);
+
 pub struct AgentNo(pub u16);
+
 pub struct NumberValue(pub u16);
+
 pub struct NonceValue(pub u16);
 
 pub enum Role {
@@ -62,6 +66,39 @@ pub enum Cause {
 pub enum Reading {
     Refused(Cause),
     Readable,
+}
+
+// Document 01's number and place of a cause.
+pub fn number(cause: Cause) -> u16
+    ensures { λ n. ⌜ n ≡ numberOf cause ⌝ }
+{
+    match cause {
+        Cause::TooShort => 1,
+        Cause::WrongVersion => 2,
+        Cause::WrongSet => 3,
+        Cause::WrongContents => 4,
+        Cause::BadRow(_) => 5,
+        Cause::RepeatedRow(_) => 6,
+        Cause::BadEvent(_) => 7,
+        Cause::ShortBuffer => 8,
+        Cause::TooManyEvents => 9,
+    }
+}
+
+pub fn place(cause: Cause) -> u16
+    ensures { λ n. ⌜ n ≡ placeOf cause ⌝ }
+{
+    match cause {
+        Cause::BadRow(r) => r.0,
+        Cause::RepeatedRow(r) => r.0,
+        Cause::BadEvent(e) => e.0,
+        Cause::TooShort => 0,
+        Cause::WrongVersion => 0,
+        Cause::WrongSet => 0,
+        Cause::WrongContents => 0,
+        Cause::ShortBuffer => 0,
+        Cause::TooManyEvents => 0,
+    }
 }
 
 // The rows and events of a file whose contents part is right.

@@ -1,6 +1,7 @@
 // Parts of the lent file: the eight bytes of a row or an event.
-use super::header::{header_of, ITEM, ROWS_AT};
-
+use super::header::ITEM;
+use super::header::ROWS_AT;
+use super::header::header_of;
 ghost use Prim.Native.Nat.{_<_};
 ghost use Rattle.trace.specs.Fault.{Part, nothing, eightAt, rowSpan, eventSpan};
 

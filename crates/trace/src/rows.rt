@@ -1,8 +1,14 @@
 // Rows: the five numbers of each, what its kind's line asks of them, and what the row is.
+use super::AgentNo;
+use super::NonceValue;
+use super::NumberValue;
+use super::Role;
+use super::Row;
+use super::RowNo;
 use super::bytes;
-use super::header::{AGENTS, ITEM, ROWS_AT};
-use super::{AgentNo, NonceValue, NumberValue, Role, Row, RowNo};
-
+use super::header::AGENTS;
+use super::header::ITEM;
+use super::header::ROWS_AT;
 ghost use mathlib.Core.Path.{_≡_};
 ghost use Rattle.trace.specs.Rows.{fieldsAt, kindAt, agentLine, valueLine, nonceBelow, keyBelow, threeNonces, nonceLine, keyLine, hashLine, cryptLine, pairLine, rowFits, roleOf, rowOf};
 
@@ -128,7 +134,11 @@ pub fn row_fits(file: &[u8], r: u16) -> bool
 fn role_of(role: u16) -> Role
     ensures { λ r. ⌜ r ≡ roleOf role ⌝ }
 {
-    if role == 0 { Role::Client } else { Role::Server }
+    if role == 0 {
+        Role::Client
+    } else {
+        Role::Server
+    }
 }
 
 // What a row is. A kind above 9 reads as a Pair, and its row is refused.
@@ -143,7 +153,12 @@ pub fn row_of(f: Fields) -> Row
         3 => Row::Prf(RowNo(f.first), RowNo(f.second), RowNo(f.third)),
         4 => Row::PublicKey(AgentNo(f.first)),
         5 => Row::PrivateKey(AgentNo(f.first)),
-        6 => Row::SessionKey(role_of(f.role), RowNo(f.first), RowNo(f.second), RowNo(f.third)),
+        6 => Row::SessionKey(
+            role_of(f.role),
+            RowNo(f.first),
+            RowNo(f.second),
+            RowNo(f.third),
+        ),
         7 => Row::Hash(RowNo(f.first)),
         8 => Row::Crypt(RowNo(f.first), RowNo(f.second)),
         _ => Row::Pair(RowNo(f.first), RowNo(f.second)),

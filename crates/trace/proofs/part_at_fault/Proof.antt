@@ -3,11 +3,6 @@
 use borrow.Author.Needs.{needs}
 use Rattle.trace.proofs.part_at_fault.Statement.{statement}
 use Rattle.trace.proofs.part_at_fault.Tie as tie
-use Rattle.trace.proofs.part_at_fault.Reads as reads
-use Rattle.trace.proofs.part_at_fault.Lts as lts
-use Rattle.trace.proofs.parts.empty_part.Reads as empty-part-reads
-use Rattle.trace.proofs.parts.event_part.Reads as event-part-reads
-use Rattle.trace.proofs.parts.row_part.Reads as row-part-reads
 
 returns : tie.Need-returns
 returns c = rw (c .before .before .cause .given .1) (c .row-part .ensures)

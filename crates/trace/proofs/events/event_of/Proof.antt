@@ -1,8 +1,8 @@
-use borrow.Author.Tests.{eq-eqb, ne-eqb, lt-ltb, le-ltb}
+-- `trace::events::event_of` meets its contract: the test on the kind says which event it is.
+-- Assumes nothing.
+use borrow.Author.Tests.{eq-eqb, ne-eqb}
 use Rattle.trace.proofs.events.event_of.Statement.{statement}
 use Rattle.trace.proofs.events.event_of.Tie as tie
-use Rattle.trace.proofs.events.event_of.Reads as reads
-use Rattle.trace.proofs.events.event_of.Lts as lts
 
 returns : tie.Need-returns
 returns c = simp (eq-eqb _ _ (c .if1 .taken))

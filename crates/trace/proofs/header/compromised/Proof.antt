@@ -1,9 +1,8 @@
+-- `trace::header::compromised` meets its contract: the byte that holds the agent's bit is what `byte_at` ensures.
+-- Assumes nothing.
 use borrow.Author.Needs.{needs}
 use Rattle.trace.proofs.header.compromised.Statement.{statement}
 use Rattle.trace.proofs.header.compromised.Tie as tie
-use Rattle.trace.proofs.header.compromised.Reads as reads
-use Rattle.trace.proofs.header.compromised.Lts as lts
-use Rattle.trace.proofs.bytes.byte_at.Reads as byte-at-reads
 
 returns : tie.Need-returns
 returns c = cc

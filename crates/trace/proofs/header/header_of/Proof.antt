@@ -1,9 +1,8 @@
+-- `trace::header::header_of` meets its contract: each field is what `word_at` ensures.
+-- Assumes nothing.
 use borrow.Author.Needs.{needs}
 use Rattle.trace.proofs.header.header_of.Statement.{statement}
 use Rattle.trace.proofs.header.header_of.Tie as tie
-use Rattle.trace.proofs.header.header_of.Reads as reads
-use Rattle.trace.proofs.header.header_of.Lts as lts
-use Rattle.trace.proofs.bytes.word_at.Reads as word-at-reads
 
 returns : tie.Need-returns
 returns c = cc

@@ -1,9 +1,8 @@
+-- `trace::header::wrong_set` meets its contract: the two tests are what `compromised` ensures.
+-- Assumes nothing.
 use borrow.Author.Needs.{needs}
 use Rattle.trace.proofs.header.wrong_set.Statement.{statement}
 use Rattle.trace.proofs.header.wrong_set.Tie as tie
-use Rattle.trace.proofs.header.wrong_set.Reads as reads
-use Rattle.trace.proofs.header.wrong_set.Lts as lts
-use Rattle.trace.proofs.header.compromised.Reads as compromised-reads
 
 returns : tie.Need-returns
 returns c = cc

@@ -9,9 +9,6 @@ use borrow.Author.Tests.{le-leb, lt-leb}
 use borrow.Author.Needs.{needs}
 use Rattle.trace.proofs.parts.eight_at.Statement.{statement}
 use Rattle.trace.proofs.parts.eight_at.Tie as tie
-use Rattle.trace.proofs.parts.eight_at.Reads as reads
-use Rattle.trace.proofs.parts.eight_at.Lts as lts
-use Rattle.trace.proofs.parts.empty_part.Reads as empty-part-reads
 
 returns : tie.Need-returns
 returns c =
@@ -19,7 +16,7 @@ returns c =
     rw (le-leb (a .at + 8) (length (now (a .file))) (c .before .if1 .taken))
     (record {
       holds = ap (λ (k : ℕ). take k (drop (a .at) (now (a .file)))) (add-sub-cancel-left (a .at) 8);
-      stands = refl
+      stands = refl;
     })
 
 returns-2 : tie.Need-returns-2

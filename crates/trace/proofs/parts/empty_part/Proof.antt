@@ -1,9 +1,9 @@
+-- `trace::parts::empty_part` meets its contract: nothing is taken, from byte 0.
+-- Assumes nothing.
 use mathlib.Core.Path.{refl}
 use borrow.Author.Needs.{needs}
 use Rattle.trace.proofs.parts.empty_part.Statement.{statement}
 use Rattle.trace.proofs.parts.empty_part.Tie as tie
-use Rattle.trace.proofs.parts.empty_part.Reads as reads
-use Rattle.trace.proofs.parts.empty_part.Lts as lts
 
 returns : tie.Need-returns
 returns c = record { holds = refl; stands = refl }

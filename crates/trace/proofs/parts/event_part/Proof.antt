@@ -9,10 +9,6 @@ use Rattle.trace.specs.declared.header.Header.{Header}
 use borrow.Author.Needs.{needs}
 use Rattle.trace.proofs.parts.event_part.Statement.{statement}
 use Rattle.trace.proofs.parts.event_part.Tie as tie
-use Rattle.trace.proofs.parts.event_part.Reads as reads
-use Rattle.trace.proofs.parts.event_part.Lts as lts
-use Rattle.trace.proofs.header.header_of.Reads as header-of-reads
-use Rattle.trace.proofs.parts.eight_at.Reads as eight-at-reads
 
 returns : tie.Need-returns
 returns c =

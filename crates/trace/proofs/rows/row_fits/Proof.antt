@@ -1,3 +1,5 @@
+-- `trace::rows::row_fits` meets its contract: in each arm the kind is known, and the line of that kind is what its function ensures.
+-- Assumes nothing.
 use native.Mathlib.Omega.{arith}
 use mathlib.Core.Path.{_∙_, sym, ap}
 use denote.Ref.{now}
@@ -6,16 +8,6 @@ use Rattle.trace.proofs.Lines.{line-agent, line-number, line-nonce, lin
 use borrow.Author.Needs.{needs}
 use Rattle.trace.proofs.rows.row_fits.Statement.{statement}
 use Rattle.trace.proofs.rows.row_fits.Tie as tie
-use Rattle.trace.proofs.rows.row_fits.Reads as reads
-use Rattle.trace.proofs.rows.row_fits.Lts as lts
-use Rattle.trace.proofs.rows.agent_line.Reads as agent-line-reads
-use Rattle.trace.proofs.rows.crypt_line.Reads as crypt-line-reads
-use Rattle.trace.proofs.rows.fields_at.Reads as fields-at-reads
-use Rattle.trace.proofs.rows.hash_line.Reads as hash-line-reads
-use Rattle.trace.proofs.rows.key_line.Reads as key-line-reads
-use Rattle.trace.proofs.rows.nonce_line.Reads as nonce-line-reads
-use Rattle.trace.proofs.rows.pair_line.Reads as pair-line-reads
-use Rattle.trace.proofs.rows.value_line.Reads as value-line-reads
 
 returns : tie.Need-returns
 returns c =

@@ -1,11 +1,10 @@
+-- `trace::rows::row_of` meets its contract: in each arm the kind is known.
+-- Assumes nothing.
 use borrow.Author.Tests.{ne-eqb}
 use Rattle.trace.specs.Rows.{rowOf}
 use borrow.Author.Needs.{needs}
 use Rattle.trace.proofs.rows.row_of.Statement.{statement}
 use Rattle.trace.proofs.rows.row_of.Tie as tie
-use Rattle.trace.proofs.rows.row_of.Reads as reads
-use Rattle.trace.proofs.rows.row_of.Lts as lts
-use Rattle.trace.proofs.rows.role_of.Reads as role-of-reads
 
 returns : tie.Need-returns
 unfolding rowOf
@@ -47,10 +46,17 @@ returns-10 : tie.Need-returns-10
 unfolding rowOf
 returns-10 c =
     let k = c .match .rest in
-    simp
-    (ne-eqb _ _ (k .1), ne-eqb _ _ (k .0 .1), ne-eqb _ _ (k .0 .0 .1), ne-eqb _ _ (k .0 .0 .0 .1),
-      ne-eqb _ _ (k .0 .0 .0 .0 .1), ne-eqb _ _ (k .0 .0 .0 .0 .0 .1), ne-eqb _ _ (k .0 .0 .0 .0 .0 .0 .1),
-      ne-eqb _ _ (k .0 .0 .0 .0 .0 .0 .0 .1), ne-eqb _ _ (k .0 .0 .0 .0 .0 .0 .0 .0 .1))
+    simp (
+      ne-eqb _ _ (k .1),
+      ne-eqb _ _ (k .0 .1),
+      ne-eqb _ _ (k .0 .0 .1),
+      ne-eqb _ _ (k .0 .0 .0 .1),
+      ne-eqb _ _ (k .0 .0 .0 .0 .1),
+      ne-eqb _ _ (k .0 .0 .0 .0 .0 .1),
+      ne-eqb _ _ (k .0 .0 .0 .0 .0 .0 .1),
+      ne-eqb _ _ (k .0 .0 .0 .0 .0 .0 .0 .1),
+      ne-eqb _ _ (k .0 .0 .0 .0 .0 .0 .0 .0 .1),
+    )
 
 pub row-of-spec : {M : Type 1} → statement M
 row-of-spec =

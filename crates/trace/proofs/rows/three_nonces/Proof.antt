@@ -1,9 +1,8 @@
+-- `trace::rows::three_nonces` meets its contract: each of the three is what `nonce_below` ensures.
+-- Assumes nothing.
 use borrow.Author.Needs.{needs}
 use Rattle.trace.proofs.rows.three_nonces.Statement.{statement}
 use Rattle.trace.proofs.rows.three_nonces.Tie as tie
-use Rattle.trace.proofs.rows.three_nonces.Reads as reads
-use Rattle.trace.proofs.rows.three_nonces.Lts as lts
-use Rattle.trace.proofs.rows.nonce_below.Reads as nonce-below-reads
 
 returns : tie.Need-returns
 returns c = cc

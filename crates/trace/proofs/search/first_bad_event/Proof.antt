@@ -1,8 +1,8 @@
 -- `trace::search::first_bad_event` meets its contract: no event passed is bad, and the one that it stops at is.
 -- Assumes nothing.
 use Prim.Native.Nat.{ℕ, _≤_, _<_, _-_}
-use mathlib.Core.Bool.{Bool, true, false, not}
-use mathlib.Core.Path.{_≡_, ap, sym, _∙_}
+use mathlib.Core.Bool.{Bool, false, not}
+use mathlib.Core.Path.{_≡_, sym, _∙_}
 use native.Mathlib.Omega.{arith}
 use denote.Ref.{now}
 use borrow.Author.Count.{below-none, below-more}
@@ -13,10 +13,6 @@ use Rattle.trace.specs.Refusal.{badEvent}
 use Rattle.trace.proofs.First.{first-found, first-none}
 use Rattle.trace.proofs.search.first_bad_event.Statement.{statement}
 use Rattle.trace.proofs.search.first_bad_event.Tie as tie
-use Rattle.trace.proofs.search.first_bad_event.Reads as reads
-use Rattle.trace.proofs.search.first_bad_event.Lts as lts
-use Rattle.trace.proofs.events.event_fits.Reads as event-fits-reads
-use Rattle.trace.proofs.events.parts_at.Reads as parts-at-reads
 
 -- the event's test, from what the two calls ensure
 tested : {p q : Parts} {b : Bool} (rows : ℕ) → p ≡ q → b ≡ eventFits p rows → not (eventFits q rows) ≡ not b
@@ -54,9 +50,11 @@ loop-less c = omega arith
 loop-again : tie.Need-loop-again Inv-loop μ-loop
 loop-again c =
     let a = c .before .before .before .before .before .before .args in
-    let l = c .before .before .before .before .loop in
-    (omega arith, below-more _ _ (l .inv .1)
-      (tested (a .rows) (c .before .before .parts-at .ensures) (c .before .event-fits .ensures) ∙ c .if1 .left))
+    let l = c .before .before .before .before .loop in (
+      omega arith,
+      below-more _ _ (l .inv .1)
+          (tested (a .rows) (c .before .before .parts-at .ensures) (c .before .event-fits .ensures) ∙ c .if1 .left),
+    )
 
 returns-2 : tie.Need-returns-2 Inv-loop μ-loop
 returns-2 c =

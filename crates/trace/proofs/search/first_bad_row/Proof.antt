@@ -1,7 +1,7 @@
 -- `trace::search::first_bad_row` meets its contract: no row passed is bad, and the one that it stops at is.
 -- Assumes nothing.
 use Prim.Native.Nat.{ℕ, _≤_, _<_, _-_}
-use mathlib.Core.Bool.{true, false, not}
+use mathlib.Core.Bool.{false, not}
 use mathlib.Core.Path.{_≡_, ap, sym, _∙_}
 use native.Mathlib.Omega.{arith}
 use denote.Ref.{now}
@@ -11,15 +11,12 @@ use Rattle.trace.specs.Refusal.{badRow}
 use Rattle.trace.proofs.First.{first-found, first-none}
 use Rattle.trace.proofs.search.first_bad_row.Statement.{statement}
 use Rattle.trace.proofs.search.first_bad_row.Tie as tie
-use Rattle.trace.proofs.search.first_bad_row.Reads as reads
-use Rattle.trace.proofs.search.first_bad_row.Lts as lts
-use Rattle.trace.proofs.rows.row_fits.Reads as row-fits-reads
 
 abbrev Inv-loop : tie.InvT-loop
-Inv-loop file rows r₀ r = (r ≤ rows) × ((k : ℕ) → k < r → badRow file k ≡ false)
+Inv-loop file rows row₀ row = (row ≤ rows) × ((k : ℕ) → k < row → badRow file k ≡ false)
 
 abbrev μ-loop : tie.MeasureT-loop
-μ-loop file rows r₀ r = rows - r
+μ-loop file rows row₀ row = rows - row
 
 loop-holds : tie.Need-loop-holds Inv-loop μ-loop
 loop-holds c = (omega arith, below-none _)
@@ -32,11 +29,11 @@ returns c =
     let a = c .before .before .before .before .before .args in
     let l = c .before .before .before .loop in
     sym
-    (first-found (badRow (now (a .file))) (a .rows) (l .r) (c .before .before .loop-test .taken) (l .inv .1)
+    (first-found (badRow (now (a .file))) (a .rows) (l .row) (c .before .before .loop-test .taken) (l .inv .1)
     (ap not (sym (c .before .row-fits .ensures)) ∙ c .if1 .taken))
 
-add-r : tie.Need-add-r Inv-loop μ-loop
-add-r c = omega arith
+add-row : tie.Need-add-row Inv-loop μ-loop
+add-row c = omega arith
 
 loop-less : tie.Need-loop-less Inv-loop μ-loop
 loop-less c = omega arith
@@ -50,7 +47,7 @@ returns-2 : tie.Need-returns-2 Inv-loop μ-loop
 returns-2 c =
     let a = c .before .before .before .args in
     let l = c .before .loop in
-    let e : l .r ≡ a .rows = omega arith in
+    let e : l .row ≡ a .rows = omega arith in
     e ∙ sym (first-none (badRow (now (a .file))) (a .rows) (rw e at (l .inv .1)))
 
 pub first-bad-row-spec : {M : Type 1} → statement M
@@ -62,7 +59,7 @@ first-bad-row-spec =
     loop-holds
     row-fits-requires
     returns
-    add-r
+    add-row
     loop-less
     loop-again
     returns-2)

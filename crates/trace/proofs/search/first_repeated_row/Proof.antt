@@ -1,7 +1,7 @@
 -- `trace::search::first_repeated_row` meets its contract: rows below r are chained by bucket, and none of them is repeated.
 -- Assumes nothing.
-use Prim.Native.Nat.{ℕ, _+_, _≤_, _<_, _-_}
-use mathlib.Core.Bool.{Bool, true, false}
+use Prim.Native.Nat.{ℕ, _≤_, _<_, _-_}
+use mathlib.Core.Bool.{Bool, false}
 use mathlib.Core.List.{List}
 use mathlib.Core.Path.{_≡_, sym, _∙_, ap}
 use native.Mathlib.Omega.{arith}
@@ -14,14 +14,9 @@ use Rattle.trace.specs.Refusal.{repeatedRow}
 use Rattle.trace.specs.Chain.{bucketOf, Searched}
 use Rattle.trace.specs.declared.rows.Fields.{Fields}
 use Rattle.trace.proofs.First.{first-found, first-none}
-use Rattle.trace.proofs.Chain.{Chained, chained-none, chained-more, in-room, not-repeated, is-repeated}
+use Rattle.trace.proofs.Chain.{Chained, chained-none, chained-more, not-repeated, is-repeated}
 use Rattle.trace.proofs.search.first_repeated_row.Statement.{statement}
 use Rattle.trace.proofs.search.first_repeated_row.Tie as tie
-use Rattle.trace.proofs.search.first_repeated_row.Reads as reads
-use Rattle.trace.proofs.search.first_repeated_row.Lts as lts
-use Rattle.trace.proofs.rows.fields_at.Reads as fields-at-reads
-use Rattle.trace.proofs.search.bucket.Reads as bucket-reads
-use Rattle.trace.proofs.search.in_chain.Reads as in-chain-reads
 
 -- what the search said, of the row's own fields
 said : (file nexts : List ℕ) (head : ℕ) {f g : Fields} {b d : Bool} → f ≡ g → b ≡ d → Searched file nexts head f b → Searched file nexts head g d
@@ -93,11 +88,13 @@ loop-again c =
     let l = c .before .before .before .before .before .before .loop in
     let fields = c .before .before .before .before .fields-at .ensures in
     let h = c .before .before .before .bucket .result in
-    let bucket : h ≡ bucketOf (fieldsAt file (l .r)) = c .before .before .before .bucket .ensures .0 ∙ ap bucketOf fields in
-    (omega arith, chained-more file (l .heads) (l .nexts) (l .r) h bucket (l .inv .1) (omega arith),
+    let bucket : h ≡ bucketOf (fieldsAt file (l .r)) = c .before .before .before .bucket .ensures .0 ∙ ap bucketOf fields in (
+      omega arith,
+      chained-more file (l .heads) (l .nexts) (l .r) h bucket (l .inv .1) (omega arith),
       below-more _ _ (l .inv .2)
-      (not-repeated file (l .heads) (l .nexts) (l .r) h bucket (l .inv .1)
-      (said file (l .nexts) (getD (l .heads) h 0) fields (c .if1 .left) (c .before .in-chain .ensures))))
+          (not-repeated file (l .heads) (l .nexts) (l .r) h bucket (l .inv .1)
+          (said file (l .nexts) (getD (l .heads) h 0) fields (c .if1 .left) (c .before .in-chain .ensures))),
+    )
 
 returns-2 : tie.Need-returns-2 Inv-loop μ-loop
 returns-2 c =

@@ -1,11 +1,10 @@
 -- `trace::search::in_chain` meets its contract: a row of the chain that has the fields is still ahead, and none is left at the end.
 -- Links fall, so the loop ends. Assumes nothing.
-use Prim.Native.Nat.{ℕ, _≤_, _<_, _-_}
-use mathlib.Core.Bool.{true, false, true≢false}
+use Prim.Native.Nat.{ℕ, _≤_, _-_}
+use mathlib.Core.Bool.{true≢false}
 use mathlib.Core.Path.{_≡_, sym, _∙_}
 use native.Mathlib.Omega.{arith}
 use denote.Ref.{now}
-use lib.ListN.{getD}
 use borrow.Author.Needs.{needs}
 use Rattle.trace.specs.Rows.{fieldsAt}
 use Rattle.trace.specs.Chain.{Reach}
@@ -13,10 +12,6 @@ use Rattle.trace.proofs.Same.{same-equal, differ}
 use Rattle.trace.proofs.Chain.{reach-end, reach-next}
 use Rattle.trace.proofs.search.in_chain.Statement.{statement}
 use Rattle.trace.proofs.search.in_chain.Tie as tie
-use Rattle.trace.proofs.search.in_chain.Reads as reads
-use Rattle.trace.proofs.search.in_chain.Lts as lts
-use Rattle.trace.proofs.rows.fields_at.Reads as fields-at-reads
-use Rattle.trace.proofs.search.same_fields.Reads as same-fields-reads
 
 abbrev Inv-loop : tie.InvT-loop
 Inv-loop file nexts head f link₀ link = (link ≤ head) × ((s : ℕ) → Reach nexts head s → fieldsAt file s ≡ f → Reach nexts link s)
@@ -40,11 +35,13 @@ returns : tie.Need-returns Inv-loop μ-loop
 returns c =
     let link = c .before .before .before .before .loop .link in
     record {
-      hit = λ _.
-        (link - 1, omega arith,
-          sym (c .before .before .fields-at .ensures) ∙
-          same-equal _ _ (sym (c .before .same-fields .ensures) ∙ c .if1 .taken));
-      missed = λ e. absurd (true≢false e)
+      hit = λ _. (
+        link - 1,
+        omega arith,
+        sym (c .before .before .fields-at .ensures) ∙
+            same-equal _ _ (sym (c .before .same-fields .ensures) ∙ c .if1 .taken),
+      );
+      missed = λ e. absurd (true≢false e);
     }
 
 cast-link : tie.Need-cast-link Inv-loop μ-loop
@@ -66,16 +63,17 @@ loop-again : tie.Need-loop-again Inv-loop μ-loop
 loop-again c =
     let start = c .before .before .before .before .before .before .before in
     let l = c .before .before .before .before .before .loop in
-    let other = differ (start .args .f) (c .before .before .before .fields-at .ensures) (c .before .before .same-fields .ensures) (c .before .if1 .left) in
-    (omega (arith, start .pre .0 (l .link - 1)),
-      λ s r e. reach-next (now (start .args .file)) _ (start .args .f) (l .link) s other e (l .inv .1 s r e))
+    let other = differ (start .args .f) (c .before .before .before .fields-at .ensures) (c .before .before .same-fields .ensures) (c .before .if1 .left) in (
+      omega (arith, start .pre .0 (l .link - 1)),
+      λ s r e. reach-next (now (start .args .file)) _ (start .args .f) (l .link) s other e (l .inv .1 s r e),
+    )
 
 returns-2 : tie.Need-returns-2 Inv-loop μ-loop
 returns-2 c =
     let l = c .before .loop in
     record {
       hit = λ e. absurd (true≢false (sym e));
-      missed = λ _ s r e. reach-end _ (l .link) s (omega arith) (l .inv .1 s r e)
+      missed = λ _ s r e. reach-end _ (l .link) s (omega arith) (l .inv .1 s r e);
     }
 
 pub in-chain-spec : {M : Type 1} → statement M
