@@ -1,0 +1,78 @@
+-- Any depth above the row serves: what `learnRow` learns below a row lies below it.
+-- Assumes nothing.
+use Prim.Native.Nat.{ℕ, zero, suc, _<_, _≤_}
+use mathlib.Core.Bool.{Bool, true, false, _||_}
+use mathlib.Core.List.{List}
+use mathlib.Core.Logic.{⊎-elim}
+use mathlib.Core.Path.{_≡_, refl, sym, _∙_, ap}
+use native.Mathlib.Omega.{arith}
+use lib.Dec.{ltb, leb}
+use borrow.Author.Tests.{ltb-true, lt-ltb, le-ltb, le-leb, lt-leb}
+use lib.ListN.{set}
+use Rattle.trace.specs.Rows.{rowAt}
+use Rattle.trace.specs.declared.Row.{Row}
+use Rattle.trace.proofs.First.{lt-suc}
+use Rattle.spy.specs.Closure.{State, stateOf, rowMarked, knowRow, sidesOf, below, learnWith, learnRow}
+use Rattle.spy.specs.declared.closure.Sides.{Sides}
+
+or-true : (a : Bool) → (a || true) ≡ true
+or-true true = refl
+or-true false = refl
+
+abbrev pub Go : Type 0
+Go = List ℕ → List ℕ → ℕ → State
+
+module _ (go go′ : Go) (row : ℕ) (same : (rs ks : List ℕ) (x : ℕ) → x < row → go rs ks x ≡ go′ rs ks x) where
+  below-same : (rs ks : List ℕ) (x : ℕ) → below go rs ks row x ≡ below go′ rs ks row x
+  below-same rs ks x = by-test (ltb x row) refl
+    where
+      by-test : (b : Bool) → ltb x row ≡ b →
+        _≡_ {A = State} (elim b [ true ↦ go rs ks x | false ↦ stateOf rs ks false ]) (elim b [ true ↦ go′ rs ks x | false ↦ stateOf rs ks false ])
+      by-test true e = same rs ks x (ltb-true x row e)
+      by-test false e = refl
+
+  with-same : (rs ks : List ℕ) (sides : Sides) (kind : Row) → learnWith go rs ks row sides kind ≡ learnWith go′ rs ks row sides kind
+  with-same rs ks sides kind = rw (below-same rs ks (sides .left), below-same _ _ (sides .right))
+
+module _ (file : List ℕ) where
+  deeper : (d : ℕ) (rs ks : List ℕ) (row : ℕ) → row < d → learnRow file (suc d) rs ks row ≡ learnRow file d rs ks row
+  unfolding learnRow
+  deeper zero rs ks row l = absurd (omega arith)
+  deeper (suc d) rs ks row l =
+      by-test (rowMarked rs row || leb 1024 row)
+      (with-same (learnRow file (suc d)) (learnRow file d) row (λ rs′ ks′ x h. deeper d rs′ ks′ x (omega arith)) rs ks (sidesOf file rs ks row (rowAt file row)) (rowAt file row))
+    where
+      by-test : (b : Bool) → {s t : State} → s ≡ t →
+        _≡_ {A = State} (elim b [ true ↦ stateOf rs ks false | false ↦ s ]) (elim b [ true ↦ stateOf rs ks false | false ↦ t ])
+      by-test true e = refl
+      by-test false e = e
+
+  pub any-depth : (d : ℕ) (rs ks : List ℕ) (row : ℕ) → row < d → learnRow file d rs ks row ≡ learnRow file (suc row) rs ks row
+  any-depth zero rs ks row l = absurd (omega arith)
+  any-depth (suc d) rs ks row l = ⊎-elim (λ h. deeper d rs ks row h ∙ any-depth d rs ks row h) (λ e. rw e) (lt-suc row d l)
+
+  -- `learnRow` and `below`, case by case
+  module _ (rs ks : List ℕ) (row : ℕ) where
+    pub learn-known : rowMarked rs row ≡ true → stateOf rs ks false ≡ learnRow file (suc row) rs ks row
+    unfolding learnRow
+    learn-known e = rw (e, learnRow)
+
+    pub learn-past : 1024 ≤ row → stateOf rs ks false ≡ learnRow file (suc row) rs ks row
+    unfolding learnRow
+    learn-past l = rw (le-leb 1024 row l, or-true (rowMarked rs row), learnRow)
+
+    pub learn-open : rowMarked rs row ≡ false → row < 1024 →
+      (sides : Sides) → sides ≡ sidesOf file rs ks row (rowAt file row) →
+      (lr lk : List ℕ) (lf : Bool) → stateOf lr lk lf ≡ below (learnRow file row) rs ks row (sides .left) →
+      (rr rk : List ℕ) (rf : Bool) → stateOf rr rk rf ≡ below (learnRow file row) lr lk row (sides .right) →
+      (kk : List ℕ) → kk ≡ knowRow rk (rowAt file row) →
+      stateOf (set rr row 1) kk (lf || rf || sides .key) ≡ learnRow file (suc row) rs ks row
+    unfolding learnRow
+    learn-open unmarked room sides se lr lk lf le rr rk rf re kk ke =
+        rw (unmarked, lt-leb 1024 row room, learnRow, ← se, ← le, ← re, ke)
+
+    pub below-taken : (x : ℕ) → x < row → learnRow file (suc x) rs ks x ≡ below (learnRow file row) rs ks row x
+    below-taken x l = rw (lt-ltb x row l, below) (sym (any-depth row rs ks x l))
+
+    pub below-left : (x : ℕ) → row ≤ x → stateOf rs ks false ≡ below (learnRow file row) rs ks row x
+    below-left x l = rw (le-ltb x row l, below)

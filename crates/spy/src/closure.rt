@@ -1,0 +1,159 @@
+// Closing: a row that is learnt is opened once, and a key that becomes known opens what waited for it.
+//
+// The state is two arrays: a mark for each analysed row, and one for each key that is known, public
+// keys at 0 to 63 and private ones at 64 to 127.
+use trace::AgentNo;
+use trace::Row;
+use trace::RowNo;
+ghost use mathlib.Core.Path.{_≡_};
+ghost use Prim.Native.Nat.{suc};
+ghost use Rattle.trace.specs.Rows.{rowAt};
+ghost use Rattle.spy.specs.Closure.{stateOf, rowMarked, keyMarked, know, knowRow, opens, noSides, sidesOf, below, learnRow};
+
+const ROWS: u16 = 1024;
+
+const KEYS: usize = 128;
+
+fn row_marked(rows: &[u8; 1024], r: u16) -> bool
+    ensures { λ b. ⌜ b ≡ rowMarked (now (rows .entry)) r ⌝ }
+{
+    if r < ROWS {
+        rows[r as usize] == 1
+    } else {
+        false
+    }
+}
+
+fn key_marked(keys: &[u8; 128], at: usize) -> bool
+    ensures { λ b. ⌜ b ≡ keyMarked (now (keys .entry)) at ⌝ }
+{
+    if at < KEYS { keys[at] == 1 } else { false }
+}
+
+// Whether the inverse of the key in row k is known.
+fn opens_with(file: &[u8], rows: &[u8; 1024], keys: &[u8; 128], k: RowNo) -> bool
+    ensures { λ b. ⌜ b ≡ opens (now (file .entry)) (now (rows .entry)) (now (keys .entry)) (k .0) ⌝ }
+{
+    let row = trace::row_at(file, k);
+    match row {
+        Row::PublicKey(a) => key_marked(keys, 64 + (a.0 as usize)),
+        Row::PrivateKey(a) => key_marked(keys, a.0 as usize),
+        Row::SessionKey(_, _, _, _) => row_marked(rows, k.0),
+        Row::Agent(_) => false,
+        Row::Number(_) => false,
+        Row::Nonce(_) => false,
+        Row::Prf(_, _, _) => false,
+        Row::Hash(_) => false,
+        Row::Crypt(_, _) => false,
+        Row::Pair(_, _) => false,
+    }
+}
+
+fn know_key(keys: &mut [u8; 128], at: usize)
+    ensures { λ _. ⌜ now (keys .exit) ≡ know (now (keys .entry)) at ⌝ }
+{
+    if at < KEYS {
+        keys[at] = 1;
+    }
+}
+
+// What a row opens into with the keys that are known: a side that is not below the row is none.
+pub struct Sides {
+    pub left: u16,
+    pub right: u16,
+    pub key: bool,
+}
+
+fn sides_of(file: &[u8], rows: &[u8; 1024], keys: &[u8; 128], row: u16) -> Sides
+    ensures { λ s. ⌜ s ≡ sidesOf (now (file .entry)) (now (rows .entry)) (now (keys .entry)) row (rowAt (now (file .entry)) row) ⌝ }
+{
+    let kind = trace::row_at(file, RowNo(row));
+    match kind {
+        Row::Pair(x, y) => Sides {
+            left: x.0,
+            right: y.0,
+            key: false,
+        },
+        Row::Crypt(k, x) => {
+            let opened = opens_with(file, rows, keys, k);
+            if opened {
+                Sides {
+                    left: x.0,
+                    right: row,
+                    key: false,
+                }
+            } else {
+                no_sides(row, false)
+            }
+        }
+        Row::PublicKey(_) => no_sides(row, true),
+        Row::PrivateKey(_) => no_sides(row, true),
+        Row::SessionKey(_, _, _, _) => no_sides(row, true),
+        Row::Agent(_) => no_sides(row, false),
+        Row::Number(_) => no_sides(row, false),
+        Row::Nonce(_) => no_sides(row, false),
+        Row::Prf(_, _, _) => no_sides(row, false),
+        Row::Hash(_) => no_sides(row, false),
+    }
+}
+
+fn no_sides(row: u16, key: bool) -> Sides
+    ensures { λ s. ⌜ s ≡ noSides row key ⌝ }
+{
+    Sides {
+        left: row,
+        right: row,
+        key,
+    }
+}
+
+// A public or a private key that is learnt becomes known.
+fn know_row(file: &[u8], keys: &mut [u8; 128], row: u16)
+    ensures { λ _. ⌜ now (keys .exit) ≡ knowRow (now (keys .entry)) (rowAt (now (file .entry)) row) ⌝ }
+{
+    let kind = trace::row_at(file, RowNo(row));
+    match kind {
+        Row::PublicKey(a) => know_key(keys, a.0 as usize),
+        Row::PrivateKey(a) => know_key(keys, 64 + (a.0 as usize)),
+        Row::SessionKey(_, _, _, _) => {}
+        Row::Agent(_) => {}
+        Row::Number(_) => {}
+        Row::Nonce(_) => {}
+        Row::Prf(_, _, _) => {}
+        Row::Hash(_) => {}
+        Row::Crypt(_, _) => {}
+        Row::Pair(_, _) => {}
+    }
+}
+
+// Learns a row, and all that opens below it with the keys that are known by then. Tells whether a
+// key became known. A row that is marked was opened before, so shared rows are walked once.
+pub fn learn(file: &[u8], rows: &mut [u8; 1024], keys: &mut [u8; 128], row: u16) -> bool
+    ensures { λ f. ⌜ stateOf (now (rows .exit)) (now (keys .exit)) f ≡
+        learnRow (now (file .entry)) (suc row) (now (rows .entry)) (now (keys .entry)) row ⌝ }
+{
+    let known = row_marked(rows, row);
+    if known {
+        return false;
+    }
+    if ROWS <= row {
+        return false;
+    }
+    let sides = sides_of(file, rows, keys, row);
+    let left = learn_below(file, rows, keys, row, sides.left);
+    let right = learn_below(file, rows, keys, row, sides.right);
+    know_row(file, keys, row);
+    rows[row as usize] = 1;
+    left | right | sides.key
+}
+
+fn learn_below(file: &[u8], rows: &mut [u8; 1024], keys: &mut [u8; 128], row: u16, x: u16) -> bool
+    ensures { λ f. ⌜ stateOf (now (rows .exit)) (now (keys .exit)) f ≡
+        below (learnRow (now (file .entry)) row) (now (rows .entry)) (now (keys .entry)) row x ⌝ }
+{
+    if x < row {
+        learn(file, rows, keys, x)
+    } else {
+        false
+    }
+}

@@ -1,0 +1,2 @@
+// The spy: what it knows and can make, after any number of events.
+mod closure;
