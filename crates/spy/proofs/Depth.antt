@@ -27,7 +27,7 @@ module _ (go go′ : Go) (row : ℕ) (same : (rs ks : List ℕ) (x : ℕ) → x 
   below-same rs ks x = by-test (ltb x row) refl
     where
       by-test : (b : Bool) → ltb x row ≡ b →
-        _≡_ {A = State} (elim b [ true ↦ go rs ks x | false ↦ stateOf rs ks false ]) (elim b [ true ↦ go′ rs ks x | false ↦ stateOf rs ks false ])
+          _≡_ {A = State} (elim b [ true ↦ go rs ks x | false ↦ stateOf rs ks false ]) (elim b [ true ↦ go′ rs ks x | false ↦ stateOf rs ks false ])
       by-test true e = same rs ks x (ltb-true x row e)
       by-test false e = refl
 
@@ -43,7 +43,7 @@ module _ (file : List ℕ) where
       (with-same (learnRow file (suc d)) (learnRow file d) row (λ rs′ ks′ x h. deeper d rs′ ks′ x (omega arith)) rs ks (sidesOf file rs ks row (rowAt file row)) (rowAt file row))
     where
       by-test : (b : Bool) → {s t : State} → s ≡ t →
-        _≡_ {A = State} (elim b [ true ↦ stateOf rs ks false | false ↦ s ]) (elim b [ true ↦ stateOf rs ks false | false ↦ t ])
+          _≡_ {A = State} (elim b [ true ↦ stateOf rs ks false | false ↦ s ]) (elim b [ true ↦ stateOf rs ks false | false ↦ t ])
       by-test true e = refl
       by-test false e = e
 
@@ -62,11 +62,11 @@ module _ (file : List ℕ) where
     learn-past l = rw (le-leb 1024 row l, or-true (rowMarked rs row), learnRow)
 
     pub learn-open : rowMarked rs row ≡ false → row < 1024 →
-      (sides : Sides) → sides ≡ sidesOf file rs ks row (rowAt file row) →
-      (lr lk : List ℕ) (lf : Bool) → stateOf lr lk lf ≡ below (learnRow file row) rs ks row (sides .left) →
-      (rr rk : List ℕ) (rf : Bool) → stateOf rr rk rf ≡ below (learnRow file row) lr lk row (sides .right) →
-      (kk : List ℕ) → kk ≡ knowRow rk (rowAt file row) →
-      stateOf (set rr row 1) kk (lf || rf || sides .key) ≡ learnRow file (suc row) rs ks row
+        (sides : Sides) → sides ≡ sidesOf file rs ks row (rowAt file row) →
+        (lr lk : List ℕ) (lf : Bool) → stateOf lr lk lf ≡ below (learnRow file row) rs ks row (sides .left) →
+        (rr rk : List ℕ) (rf : Bool) → stateOf rr rk rf ≡ below (learnRow file row) lr lk row (sides .right) →
+        (kk : List ℕ) → kk ≡ knowRow rk (rowAt file row) →
+        stateOf (set rr row 1) kk (lf || rf || sides .key) ≡ learnRow file (suc row) rs ks row
     unfolding learnRow
     learn-open unmarked room sides se lr lk lf le rr rk rf re kk ke =
         rw (unmarked, lt-leb 1024 row room, learnRow, ← se, ← le, ← re, ke)

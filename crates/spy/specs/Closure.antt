@@ -4,7 +4,11 @@ use mathlib.Core.Bool.{Bool, true, false, _&&_, _||_}
 use mathlib.Core.List.{List}
 use lib.Dec.{eqb, ltb, leb}
 use lib.ListN.{getD, set, replicate}
+use Rattle.trace.specs.File.{rowsOf, agentLimit, compromisedIn}
 use Rattle.trace.specs.Rows.{choose, rowAt}
+use Rattle.trace.specs.Events.{eventAt}
+use Rattle.trace.specs.declared.Event.{Event}
+use Rattle.trace.specs.declared.Event.the-variants.{Says, Notes}
 use Rattle.spy.specs.declared.closure.Sides.{Sides}
 use Rattle.trace.specs.declared.Row.{Row}
 use Rattle.trace.specs.declared.Row.the-variants.{Agent, Number, Nonce, Prf, PublicKey, PrivateKey, SessionKey, Hash, Crypt, Pair}
@@ -91,3 +95,67 @@ learnRow file (suc d) rows keys row =
       | false ↦
           learnWith (λ rs ks x. learnRow file d rs ks x) rows keys row (sidesOf file rows keys row (rowAt file row)) (rowAt file row)
     ]
+
+-- a marked row is opened again, with the keys that are known by now
+abbrev pub reopenRow : List ℕ → (rows keys : List ℕ) → ℕ → State
+reopenRow file rows keys r =
+    elim (rowMarked rows r) [
+      | true ↦ below (learnRow file r) rows keys r (sidesOf file rows keys r (rowAt file r) .left)
+      | false ↦ stateOf rows keys false
+    ]
+
+unfoldable pub passRows : List ℕ → ℕ → (rows keys : List ℕ) → State
+passRows file zero rows keys = stateOf rows keys false
+passRows file (suc n) rows keys =
+    let s = passRows file n rows keys in
+    let t = reopenRow file (s .rows) (s .keys) n in
+    stateOf (t .rows) (t .keys) (s .fresh || t .fresh)
+
+-- passes over all rows, as long as a key became known in the last one
+unfoldable pub settle : List ℕ → ℕ → State → State
+settle file zero s = s
+settle file (suc d) s = elim (s .fresh) [ true ↦ settle file d (passRows file (rowsOf file) (s .rows) (s .keys)) | false ↦ s ]
+
+-- a row is seen: it is learnt, and the state is closed again
+abbrev pub seeRow : List ℕ → (rows keys : List ℕ) → ℕ → State
+seeRow file rows keys row = settle file 1024 (learnRow file (suc row) rows keys row)
+
+abbrev pub seeEvent : List ℕ → (rows keys : List ℕ) → Event → State
+seeEvent file rows keys (Says a b r) = seeRow file rows keys (r .0)
+seeEvent file rows keys (Notes a r) =
+    elim (compromisedIn file (a .0)) [ true ↦ seeRow file rows keys (r .0) | false ↦ stateOf rows keys false ]
+
+-- the starting knowledge: keys first, then the rows that hold them
+unfoldable pub startKeys : List ℕ → ℕ → List ℕ → List ℕ
+startKeys file zero keys = keys
+startKeys file (suc a) keys = choose (compromisedIn file a) (know (startKeys file a keys) (64 + a)) (startKeys file a keys)
+
+abbrev pub keyKnown : List ℕ → Row → Bool
+keyKnown keys (Agent a) = false
+keyKnown keys (Number n) = false
+keyKnown keys (Nonce n) = false
+keyKnown keys (Prf s x y) = false
+keyKnown keys (PublicKey a) = keyMarked keys (a .0)
+keyKnown keys (PrivateKey a) = keyMarked keys (64 + a .0)
+keyKnown keys (SessionKey o x y z) = false
+keyKnown keys (Hash x) = false
+keyKnown keys (Crypt k x) = false
+keyKnown keys (Pair x y) = false
+
+abbrev pub markRow : List ℕ → ℕ → List ℕ
+markRow rows r = choose (ltb r 1024) (set rows r 1) rows
+
+unfoldable pub startRows : List ℕ → List ℕ → ℕ → List ℕ → List ℕ
+startRows file keys zero rows = rows
+startRows file keys (suc r) rows =
+    choose (keyKnown keys (rowAt file r)) (markRow (startRows file keys r rows) r) (startRows file keys r rows)
+
+abbrev pub zeros : ℕ → List ℕ
+zeros n = replicate n 0
+
+-- what is known after the first n events
+unfoldable pub knownAfter : List ℕ → ℕ → State
+knownAfter file zero =
+    let keys = startKeys file agentLimit (zeros 128) in
+    stateOf (startRows file keys (rowsOf file) (zeros 1024)) keys false
+knownAfter file (suc n) = let s = knownAfter file n in seeEvent file (s .rows) (s .keys) (eventAt file n)

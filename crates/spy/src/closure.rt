@@ -3,18 +3,22 @@
 // The state is two arrays: a mark for each analysed row, and one for each key that is known, public
 // keys at 0 to 63 and private ones at 64 to 127.
 use trace::AgentNo;
+use trace::Event;
+use trace::EventNo;
 use trace::Row;
 use trace::RowNo;
 ghost use mathlib.Core.Path.{_≡_};
-ghost use Prim.Native.Nat.{suc};
-ghost use Rattle.trace.specs.Rows.{rowAt};
-ghost use Rattle.spy.specs.Closure.{stateOf, rowMarked, keyMarked, know, knowRow, opens, noSides, sidesOf, below, learnRow};
+ghost use Prim.Native.Nat.{suc, _+_};
+ghost use Rattle.trace.specs.File.{rowsOf, compromisedIn};
+ghost use Rattle.trace.specs.Rows.{choose, rowAt};
+ghost use Rattle.trace.specs.Events.{eventAt};
+ghost use Rattle.spy.specs.Closure.{stateOf, rowMarked, keyMarked, know, knowRow, opens, noSides, sidesOf, below, learnRow, reopenRow, passRows, seeRow, seeEvent, startKeys, keyKnown, markRow, startRows};
 
 const ROWS: u16 = 1024;
 
 const KEYS: usize = 128;
 
-fn row_marked(rows: &[u8; 1024], r: u16) -> bool
+pub fn row_marked(rows: &[u8; 1024], r: u16) -> bool
     ensures { λ b. ⌜ b ≡ rowMarked (now (rows .entry)) r ⌝ }
 {
     if r < ROWS {
@@ -156,4 +160,140 @@ fn learn_below(file: &[u8], rows: &mut [u8; 1024], keys: &mut [u8; 128], row: u1
     } else {
         false
     }
+}
+
+// Opens a marked row again, with the keys that are known by now.
+fn reopen(file: &[u8], rows: &mut [u8; 1024], keys: &mut [u8; 128], r: u16) -> bool
+    ensures { λ f. ⌜ stateOf (now (rows .exit)) (now (keys .exit)) f ≡
+        reopenRow (now (file .entry)) (now (rows .entry)) (now (keys .entry)) r ⌝ }
+{
+    let known = row_marked(rows, r);
+    if known {
+        let sides = sides_of(file, rows, keys, r);
+        learn_below(file, rows, keys, r, sides.left)
+    } else {
+        false
+    }
+}
+
+// One pass over the rows; tells whether a key became known.
+fn pass(file: &[u8], rows: &mut [u8; 1024], keys: &mut [u8; 128], n: u16) -> bool
+    ensures { λ f. ⌜ stateOf (now (rows .exit)) (now (keys .exit)) f ≡
+        passRows (now (file .entry)) n (now (rows .entry)) (now (keys .entry)) ⌝ }
+{
+    let mut fresh = false;
+    let mut r: u16 = 0;
+    while r < n {
+        let opened = reopen(file, rows, keys, r);
+        fresh = fresh | opened;
+        r += 1;
+    }
+    fresh
+}
+
+// A row is seen. A pass that finds a key marks its row, so there are at most as many passes as rows.
+pub fn see(file: &[u8], rows: &mut [u8; 1024], keys: &mut [u8; 128], row: u16)
+    ensures { λ _. ⌜ now (rows .exit) ≡ seeRow (now (file .entry)) (now (rows .entry)) (now (keys .entry)) row .rows ⌝ }
+    ensures { λ _. ⌜ now (keys .exit) ≡ seeRow (now (file .entry)) (now (rows .entry)) (now (keys .entry)) row .keys ⌝ }
+{
+    let n = trace::row_count(file);
+    let mut fresh = learn(file, rows, keys, row);
+    let mut passes: u16 = 0;
+    while passes < ROWS {
+        if !fresh {
+            return;
+        }
+        fresh = pass(file, rows, keys, n);
+        passes += 1;
+    }
+}
+
+// An event is seen if it is a Says, or a Notes of a compromised agent.
+pub fn see_event(file: &[u8], rows: &mut [u8; 1024], keys: &mut [u8; 128], e: EventNo)
+    ensures { λ _. ⌜ now (rows .exit) ≡
+        seeEvent (now (file .entry)) (now (rows .entry)) (now (keys .entry)) (eventAt (now (file .entry)) (e .0)) .rows ⌝ }
+    ensures { λ _. ⌜ now (keys .exit) ≡
+        seeEvent (now (file .entry)) (now (rows .entry)) (now (keys .entry)) (eventAt (now (file .entry)) (e .0)) .keys ⌝ }
+{
+    let event = trace::event_at(file, e);
+    match event {
+        Event::Says(_, _, r) => see(file, rows, keys, r.0),
+        Event::Notes(a, r) => {
+            let seen = trace::compromised(file, a);
+            if seen {
+                see(file, rows, keys, r.0)
+            }
+        }
+    }
+}
+
+fn start_key(file: &[u8], keys: &mut [u8; 128], agent: u16)
+    ensures { λ _. ⌜ now (keys .exit) ≡
+        choose (compromisedIn (now (file .entry)) agent) (know (now (keys .entry)) (64 + agent)) (now (keys .entry)) ⌝ }
+{
+    let bad = trace::compromised(file, AgentNo(agent));
+    if bad {
+        know_key(keys, 64 + (agent as usize));
+    }
+}
+
+fn start_keys(file: &[u8], keys: &mut [u8; 128])
+    ensures { λ _. ⌜ now (keys .exit) ≡ startKeys (now (file .entry)) 64 (now (keys .entry)) ⌝ }
+{
+    let mut agent: u16 = 0;
+    while agent < 64 {
+        start_key(file, keys, agent);
+        agent += 1;
+    }
+}
+
+// Whether the row holds a key that is known.
+fn key_known(file: &[u8], keys: &[u8; 128], r: u16) -> bool
+    ensures { λ b. ⌜ b ≡ keyKnown (now (keys .entry)) (rowAt (now (file .entry)) r) ⌝ }
+{
+    let kind = trace::row_at(file, RowNo(r));
+    match kind {
+        Row::PublicKey(a) => key_marked(keys, a.0 as usize),
+        Row::PrivateKey(a) => key_marked(keys, 64 + (a.0 as usize)),
+        Row::SessionKey(_, _, _, _) => false,
+        Row::Agent(_) => false,
+        Row::Number(_) => false,
+        Row::Nonce(_) => false,
+        Row::Prf(_, _, _) => false,
+        Row::Hash(_) => false,
+        Row::Crypt(_, _) => false,
+        Row::Pair(_, _) => false,
+    }
+}
+
+fn start_row(file: &[u8], rows: &mut [u8; 1024], keys: &[u8; 128], r: u16)
+    ensures { λ _. ⌜ now (rows .exit) ≡
+        choose (keyKnown (now (keys .entry)) (rowAt (now (file .entry)) r)) (markRow (now (rows .entry)) r) (now (rows .entry)) ⌝ }
+{
+    let known = key_known(file, keys, r);
+    if known {
+        if r < ROWS {
+            rows[r as usize] = 1;
+        }
+    }
+}
+
+fn start_rows(file: &[u8], rows: &mut [u8; 1024], keys: &[u8; 128], n: u16)
+    ensures { λ _. ⌜ now (rows .exit) ≡ startRows (now (file .entry)) (now (keys .entry)) n (now (rows .entry)) ⌝ }
+{
+    let mut r: u16 = 0;
+    while r < n {
+        start_row(file, rows, keys, r);
+        r += 1;
+    }
+}
+
+// The starting knowledge, in arrays of zeros.
+pub fn start(file: &[u8], rows: &mut [u8; 1024], keys: &mut [u8; 128])
+    ensures { λ _. ⌜ now (keys .exit) ≡ startKeys (now (file .entry)) 64 (now (keys .entry)) ⌝ }
+    ensures { λ _. ⌜ now (rows .exit) ≡
+        startRows (now (file .entry)) (startKeys (now (file .entry)) 64 (now (keys .entry))) (rowsOf (now (file .entry))) (now (rows .entry)) ⌝ }
+{
+    start_keys(file, keys);
+    start_rows(file, rows, keys, trace::row_count(file));
 }

@@ -61,7 +61,7 @@ learn-returns : (t : ℕ) → learn-lts.Need-returns (
   know-row-reads.Asked,
   know-row-reads.Learnt,
 ) (learn-at t) learn.Post
-learn-returns t c = 
+learn-returns t c =
     let a = c .before .before .before .before .args in
     learn-known (now (a .file)) (now (a .rows)) (now (a .keys)) (a .row) (sym (c .before .row-marked .ensures) ∙ c .if1 .taken)
 
@@ -75,7 +75,7 @@ learn-returns-2 : (t : ℕ) → learn-lts.Need-returns-2 (
   know-row-reads.Asked,
   know-row-reads.Learnt,
 ) (learn-at t) learn.Post
-learn-returns-2 t c = 
+learn-returns-2 t c =
     let a = c .before .before .before .before .before .args in
     learn-past (now (a .file)) (now (a .rows)) (now (a .keys)) (a .row) (c .if2 .taken)
 
@@ -149,7 +149,7 @@ learn-returns-3 : (t : ℕ) → learn-lts.Need-returns-3 (
   know-row-reads.Asked,
   know-row-reads.Learnt,
 ) (learn-at t) learn.Post
-learn-returns-3 t c = 
+learn-returns-3 t c =
     let a = c .before .before .before .before .before .before .before .before .before .before .before .before .before .before .before .before .before .args in
     learn-open (now (a .file)) (now (a .rows)) (now (a .keys)) (a .row)
     (sym (c .before .before .before .before .before .before .before .before .before .before .before .before .before .before .row-marked .ensures) ∙ c .before .before .before .before .before .before .before .before .before .before .before .before .before .if1 .left) (c .before .before .before .before .before .before .before .before .before .before .before .before .if2 .left)
@@ -167,7 +167,7 @@ learn-below-learn-requires t c κs = (omega (arith, c .before .before .before .b
 learn-below-returns :
     (t : ℕ) →
     learn-below-lts.Need-returns (learn-below t, learn.Post) (learn-below-at t) learn-below′.Post
-learn-below-returns t c = 
+learn-below-returns t c =
     let a = c .before .before .before .before .before .args in
     c .learn .ensures ∙ below-taken (now (a .file)) (now (a .rows)) (now (a .keys)) (a .row) (a .x) (c .before .before .before .if1 .taken)
 
@@ -177,7 +177,7 @@ learn-below-returns-2 :
     (learn-below t, learn.Post)
     (learn-below-at t)
     learn-below′.Post
-learn-below-returns-2 t c = 
+learn-below-returns-2 t c =
     let a = c .before .before .args in
     below-left (now (a .file)) (now (a .rows)) (now (a .keys)) (a .row) (a .x) (c .if1 .left)
 

@@ -13,15 +13,19 @@ returns c = rw (← c .before .before .before .row-at .ensures, c .before .kind 
 
 returns-2 : tie.Need-returns-2
 returns-2 c =
-    rw
-    (← c .before .before .before .before .before .row-at .ensures, c .before .before .before .kind2 .given .1,
-      sym (c .before .opens-with .ensures) ∙ c .if1 .taken)
+    rw (
+      ← c .before .before .before .before .before .row-at .ensures,
+      c .before .before .before .kind2 .given .1,
+      sym (c .before .opens-with .ensures) ∙ c .if1 .taken,
+    )
 
 returns-3 : tie.Need-returns-3
 returns-3 c =
-    rw
-    (← c .before .before .before .before .before .before .row-at .ensures, c .before .before .before .before .kind2 .given .1,
-      sym (c .before .before .opens-with .ensures) ∙ c .before .if1 .left)
+    rw (
+      ← c .before .before .before .before .before .before .row-at .ensures,
+      c .before .before .before .before .kind2 .given .1,
+      sym (c .before .before .opens-with .ensures) ∙ c .before .if1 .left,
+    )
     (c .no-sides .ensures)
 
 returns-4 : tie.Need-returns-4

@@ -1,0 +1,90 @@
+-- The loops' definitions, one turn more, and what is left of settling.
+-- Assumes nothing.
+use Prim.Native.Nat.{ℕ, zero, suc, _+_, _-_, _<_, _≤_}
+use mathlib.Core.Bool.{Bool, true, false, _||_}
+use mathlib.Core.List.{List}
+use mathlib.Core.Path.{_≡_, refl, sym, _∙_, ap}
+use native.Mathlib.Omega.{arith}
+use native.Mathlib.Numerals.{add-one}
+use lib.ListN.{length, set, length-set}
+use Rattle.trace.specs.File.{rowsOf, compromisedIn}
+use Rattle.trace.specs.Rows.{choose, rowAt}
+use Rattle.spy.specs.Made.{markOf, writeMarks}
+use Rattle.spy.specs.Closure.{State, stateOf, know, reopenRow, passRows, settle, startKeys, keyKnown, markRow, startRows}
+
+module _ (file : List ℕ) where
+  pub pass-none : (rows keys : List ℕ) → stateOf rows keys false ≡ passRows file 0 rows keys
+  unfolding passRows
+  pass-none rows keys = refl
+
+  pub pass-more : (r : ℕ) (rows keys rs ks rs′ ks′ : List ℕ) (f g : Bool) →
+      stateOf rs ks f ≡ passRows file r rows keys → stateOf rs′ ks′ g ≡ reopenRow file rs ks r →
+      stateOf rs′ ks′ (f || g) ≡ passRows file (r + 1) rows keys
+  unfolding passRows
+  pass-more r rows keys rs ks rs′ ks′ f g e q = rw (add-one, ← e, ← q)
+
+  pub keys-more : (a : ℕ) (keys ks ks′ : List ℕ) → ks ≡ startKeys file a keys →
+      ks′ ≡ choose (compromisedIn file a) (know ks (64 + a)) ks → ks′ ≡ startKeys file (a + 1) keys
+  unfolding startKeys
+  keys-more a keys ks ks′ e q = rw (add-one, ← e) q
+
+  pub rows-more : (keys : List ℕ) (r : ℕ) (rows rs rs′ : List ℕ) → rs ≡ startRows file keys r rows →
+      rs′ ≡ choose (keyKnown keys (rowAt file r)) (markRow rs r) rs → rs′ ≡ startRows file keys (r + 1) rows
+  unfolding startRows
+  rows-more keys r rows rs rs′ e q = rw (add-one, ← e) q
+
+  pub keys-none : (keys : List ℕ) → keys ≡ startKeys file 0 keys
+  unfolding startKeys
+  keys-none keys = refl
+
+  pub rows-none : (keys rows : List ℕ) → rows ≡ startRows file keys 0 rows
+  unfolding startRows
+  rows-none keys rows = refl
+
+  -- settling ends where no key is fresh, and goes on by a pass where one is
+  pub settled : (d : ℕ) (rs ks : List ℕ) → settle file d (stateOf rs ks false) ≡ stateOf rs ks false
+  unfolding settle
+  settled zero rs ks = refl
+  settled (suc d) rs ks = refl
+
+  pub settle-none : (s : State) → settle file 0 s ≡ s
+  unfolding settle
+  settle-none s = refl
+
+  settle-suc : (d : ℕ) (rs ks : List ℕ) → settle file (suc d) (stateOf rs ks true) ≡ settle file d (passRows file (rowsOf file) rs ks)
+  unfolding settle
+  settle-suc d rs ks = refl
+
+  pub settle-pass : (p : ℕ) (rs ks : List ℕ) → p < 1024 →
+      settle file (1024 - p) (stateOf rs ks true) ≡ settle file (1024 - (p + 1)) (passRows file (rowsOf file) rs ks)
+  settle-pass p rs ks l =
+      let e : 1024 - p ≡ suc (1024 - (p + 1)) = omega arith in
+      rw e (settle-suc (1024 - (p + 1)) rs ks)
+
+  -- what was left to settle gives the end
+  pub see-end : {s t : State} (d : ℕ) (rs ks : List ℕ) {f : Bool} → s ≡ t →
+      settle file d (stateOf rs ks f) ≡ settle file 1024 s → f ≡ false → stateOf rs ks f ≡ settle file 1024 t
+  see-end d rs ks {f} e q z = rw (← e, ← q, z) (sym (settled d rs ks))
+
+  pub see-last : {s t : State} (p : ℕ) (rs ks : List ℕ) {f : Bool} → s ≡ t → 1024 - p ≡ 0 →
+      settle file (1024 - p) (stateOf rs ks f) ≡ settle file 1024 s → stateOf rs ks f ≡ settle file 1024 t
+  see-last p rs ks {f} e z q = rw (← e, ← q, z) (sym (settle-none (stateOf rs ks f)))
+
+  pub see-more : {t : State} (p : ℕ) (rs ks rs′ ks′ : List ℕ) (n : ℕ) {f g : Bool} → p < 1024 → n ≡ rowsOf file → f ≡ true →
+      settle file (1024 - p) (stateOf rs ks f) ≡ t → stateOf rs′ ks′ g ≡ passRows file n rs ks →
+      settle file (1024 - (p + 1)) (stateOf rs′ ks′ g) ≡ t
+  see-more p rs ks rs′ ks′ n {f} {g} l e z q r = rw (← q, z, r, e) (sym (settle-pass p rs ks l))
+
+  pub marks-none : (rows marks : List ℕ) → marks ≡ writeMarks file rows 0 marks
+  unfolding writeMarks
+  marks-none rows marks = refl
+
+  pub marks-more : (rows : List ℕ) (r : ℕ) (marks ms ms′ : List ℕ) (m : ℕ) → ms ≡ writeMarks file rows r marks →
+    m ≡ markOf file rows ms r → ms′ ≡ set ms r m → ms′ ≡ writeMarks file rows (r + 1) marks
+  unfolding writeMarks
+  marks-more rows r marks ms ms′ m e q p = rw (add-one, ← e, ← q) p
+
+  pub marks-length : (rows : List ℕ) (n : ℕ) (marks : List ℕ) → length (writeMarks file rows n marks) ≡ length marks
+  unfolding writeMarks
+  marks-length rows zero marks = refl
+  marks-length rows (suc n) marks = length-set (writeMarks file rows n marks) n _ ∙ marks-length rows n marks

@@ -1,0 +1,24 @@
+-- `spy::closure::reopen` meets its contract: the test says whether the row is marked, and its left side is what `sides_of` ensures.
+-- Assumes nothing.
+use mathlib.Core.Path.{sym, _∙_}
+use Rattle.spy.specs.Closure.{reopenRow}
+use borrow.Author.Needs.{needs}
+use Rattle.spy.proofs.closure.reopen.Statement.{statement}
+use Rattle.spy.proofs.closure.reopen.Tie as tie
+use Rattle.spy.proofs.closure.reopen.Reads as reads
+use Rattle.spy.proofs.closure.reopen.Lts as lts
+use Rattle.spy.proofs.closure.learn_below.Reads as learn-below-reads
+use Rattle.spy.proofs.closure.row_marked.Reads as row-marked-reads
+use Rattle.spy.proofs.closure.sides_of.Reads as sides-of-reads
+
+returns : tie.Need-returns
+returns c =
+    rw (sym (c .before .before .before .before .before .before .before .row-marked .ensures) ∙ c .before .before .before .before .before .before .if1 .taken, reopenRow, ← c .before .before .before .sides-of .ensures) (c .learn-below .ensures)
+
+returns-2 : tie.Need-returns-2
+returns-2 c = rw (sym (c .before .row-marked .ensures) ∙ c .if1 .left, reopenRow)
+
+pub reopen-spec : {M : Type 1} → statement M
+reopen-spec =
+    tie.close
+    (tie.spec (λ c κs. search needs) (λ c κs. search needs) (λ c κs. search needs) returns returns-2)

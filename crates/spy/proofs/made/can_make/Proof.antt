@@ -1,0 +1,76 @@
+-- `spy::made::can_make` meets its contract: in each arm the kind is known.
+-- Assumes nothing.
+use mathlib.Core.Path.{refl}
+use borrow.Author.Needs.{needs}
+use Rattle.spy.proofs.made.can_make.Statement.{statement}
+use Rattle.spy.proofs.made.can_make.Tie as tie
+use Rattle.spy.proofs.made.can_make.Reads as reads
+use Rattle.spy.proofs.made.can_make.Lts as lts
+use Rattle.spy.proofs.closure.row_marked.Reads as row-marked-reads
+use Rattle.spy.proofs.made.row_made.Reads as row-made-reads
+use Rattle.trace.proofs.row_at.Reads as row-at-reads
+
+returns : tie.Need-returns
+returns c = rw (← c .before .before .row-at .ensures, c .enum-told .given .1) refl
+
+returns-2 : tie.Need-returns-2
+returns-2 c = rw (← c .before .before .row-at .ensures, c .enum-told2 .given .1) refl
+
+returns-3 : tie.Need-returns-3
+returns-3 c = rw (← c .before .before .before .before .row-at .ensures, c .before .before .kind .given .1) (c .row-made .ensures)
+
+returns-4 : tie.Need-returns-4
+returns-4 c = 
+    rw
+    (← c .before .before .before .before .before .row-at .ensures, c .before .before .before .kind2 .given .1, c .row-made2 .ensures, c .before .row-marked .ensures)
+
+returns-5 : tie.Need-returns-5
+returns-5 c = 
+    rw
+    (← c .before .before .before .before .before .row-at .ensures, c .before .before .before .kind3 .given .1, c .row-made4 .ensures, c .before .row-made3 .ensures)
+
+returns-6 : tie.Need-returns-6
+returns-6 c = rw (← c .before .before .row-at .ensures, c .enum-told3 .given .1) refl
+
+returns-7 : tie.Need-returns-7
+returns-7 c = rw (← c .before .before .row-at .ensures, c .enum-told4 .given .1) refl
+
+returns-8 : tie.Need-returns-8
+returns-8 c = rw (← c .before .before .row-at .ensures, c .enum-told5 .given .1) refl
+
+returns-9 : tie.Need-returns-9
+returns-9 c = rw (← c .before .before .row-at .ensures, c .enum-told6 .given .1) refl
+
+returns-10 : tie.Need-returns-10
+returns-10 c = rw (← c .before .before .row-at .ensures, c .enum-told7 .given .1) refl
+
+pub can-make-spec : {M : Type 1} → statement M
+can-make-spec =
+    tie.close
+    (tie.spec
+    (λ c κs. search needs)
+    (λ c. search needs)
+    (λ c. search needs)
+    (λ c. search needs)
+    (λ c κs. search needs)
+    (λ c. search needs)
+    (λ c κs. search needs)
+    (λ c κs. search needs)
+    (λ c. search needs)
+    (λ c κs. search needs)
+    (λ c κs. search needs)
+    (λ c. search needs)
+    (λ c. search needs)
+    (λ c. search needs)
+    (λ c. search needs)
+    (λ c. search needs)
+    returns
+    returns-2
+    returns-3
+    returns-4
+    returns-5
+    returns-6
+    returns-7
+    returns-8
+    returns-9
+    returns-10)
