@@ -12,7 +12,7 @@ use lib.ListN.{set}
 use Rattle.trace.specs.Rows.{rowAt}
 use Rattle.trace.specs.declared.Row.{Row}
 use Rattle.trace.proofs.First.{lt-suc}
-use Rattle.spy.specs.Closure.{State, stateOf, rowMarked, knowRow, sidesOf, below, learnWith, learnRow}
+use Rattle.spy.specs.Closure.{State, stateOf, rowMarked, knowRow, sidesOf, below, learnWith, learnRow, reopenRow}
 use Rattle.spy.specs.declared.closure.Sides.{Sides}
 
 or-true : (a : Bool) → (a || true) ≡ true
@@ -76,3 +76,10 @@ module _ (file : List ℕ) where
 
     pub below-left : (x : ℕ) → row ≤ x → stateOf rs ks false ≡ below (learnRow file row) rs ks row x
     below-left x l = rw (le-ltb x row l, below)
+
+    pub reopen-open : rowMarked rs row ≡ true →
+      (sides : Sides) → sides ≡ sidesOf file rs ks row (rowAt file row) →
+      (lr lk : List ℕ) (lf : Bool) → stateOf lr lk lf ≡ below (learnRow file row) rs ks row (sides .left) →
+      (rr rk : List ℕ) (rf : Bool) → stateOf rr rk rf ≡ below (learnRow file row) lr lk row (sides .right) →
+      stateOf rr rk (lf || rf) ≡ reopenRow file rs ks row
+    reopen-open m sides se lr lk lf le rr rk rf re = rw (m, reopenRow, ← se, ← le, ← re)

@@ -9,8 +9,9 @@ use native.Mathlib.Numerals.{add-one}
 use lib.ListN.{length, set, length-set}
 use Rattle.trace.specs.File.{rowsOf, compromisedIn}
 use Rattle.trace.specs.Rows.{choose, rowAt}
+use Rattle.trace.specs.Events.{eventAt}
 use Rattle.spy.specs.Made.{markOf, writeMarks}
-use Rattle.spy.specs.Closure.{State, stateOf, know, reopenRow, passRows, settle, startKeys, keyKnown, markRow, startRows}
+use Rattle.spy.specs.Closure.{State, stateOf, know, reopenRow, passRows, settle, startKeys, keyKnown, markRow, startRows, seeEvent, zeros, knownAfter}
 
 module _ (file : List ℕ) where
   pub pass-none : (rows keys : List ℕ) → stateOf rows keys false ≡ passRows file 0 rows keys
@@ -80,7 +81,7 @@ module _ (file : List ℕ) where
   marks-none rows marks = refl
 
   pub marks-more : (rows : List ℕ) (r : ℕ) (marks ms ms′ : List ℕ) (m : ℕ) → ms ≡ writeMarks file rows r marks →
-    m ≡ markOf file rows ms r → ms′ ≡ set ms r m → ms′ ≡ writeMarks file rows (r + 1) marks
+      m ≡ markOf file rows ms r → ms′ ≡ set ms r m → ms′ ≡ writeMarks file rows (r + 1) marks
   unfolding writeMarks
   marks-more rows r marks ms ms′ m e q p = rw (add-one, ← e, ← q) p
 
@@ -88,3 +89,16 @@ module _ (file : List ℕ) where
   unfolding writeMarks
   marks-length rows zero marks = refl
   marks-length rows (suc n) marks = length-set (writeMarks file rows n marks) n _ ∙ marks-length rows n marks
+
+  abbrev Is : (rs ks : List ℕ) → State → Type 0
+  Is rs ks s = (rs ≡ s .rows) × (ks ≡ s .keys)
+
+  pub known-start : (rs₀ ks₀ rs ks : List ℕ) → rs₀ ≡ zeros 1024 → ks₀ ≡ zeros 128 → ks ≡ startKeys file 64 ks₀ →
+      rs ≡ startRows file (startKeys file 64 ks₀) (rowsOf file) rs₀ → Is rs ks (knownAfter file 0)
+  unfolding knownAfter
+  known-start rs₀ ks₀ rs ks er ek k r = (rw (← er, ← ek) r, rw (← ek) k)
+
+  pub known-more : (e : ℕ) (rs ks rs′ ks′ : List ℕ) → Is rs ks (knownAfter file e) →
+      Is rs′ ks′ (seeEvent file rs ks (eventAt file e)) → Is rs′ ks′ (knownAfter file (e + 1))
+  unfolding knownAfter
+  known-more e rs ks rs′ ks′ i j = rw (add-one, ← i .0, ← i .1) j

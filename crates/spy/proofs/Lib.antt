@@ -1,2 +1,5 @@
 pub mod Depth
 pub mod Folds
+pub mod Marks
+pub mod Grew
+pub mod Passes

@@ -81,11 +81,16 @@ sidesOf file rows keys row (Pair x y) = record { left = x .0; right = y .0; key 
 abbrev pub below : (List ℕ → List ℕ → ℕ → State) → (rows keys : List ℕ) → (row x : ℕ) → State
 below go rows keys row x = elim (ltb x row) [ true ↦ go rows keys x | false ↦ stateOf rows keys false ]
 
-abbrev pub learnWith : (List ℕ → List ℕ → ℕ → State) → (rows keys : List ℕ) → ℕ → Sides → Row → State
-learnWith go rows keys row sides kind =
+abbrev pub bothSides : (List ℕ → List ℕ → ℕ → State) → (rows keys : List ℕ) → ℕ → Sides → State
+bothSides go rows keys row sides =
     let l = below go rows keys row (sides .left) in
     let r = below go (l .rows) (l .keys) row (sides .right) in
-    stateOf (set (r .rows) row 1) (knowRow (r .keys) kind) (l .fresh || r .fresh || sides .key)
+    stateOf (r .rows) (r .keys) (l .fresh || r .fresh)
+
+abbrev pub learnWith : (List ℕ → List ℕ → ℕ → State) → (rows keys : List ℕ) → ℕ → Sides → Row → State
+learnWith go rows keys row sides kind =
+    let s = bothSides go rows keys row sides in
+    stateOf (set (s .rows) row 1) (knowRow (s .keys) kind) (s .fresh || sides .key)
 
 unfoldable pub learnRow : List ℕ → ℕ → (rows keys : List ℕ) → ℕ → State
 learnRow file zero rows keys row = stateOf rows keys false
@@ -100,7 +105,7 @@ learnRow file (suc d) rows keys row =
 abbrev pub reopenRow : List ℕ → (rows keys : List ℕ) → ℕ → State
 reopenRow file rows keys r =
     elim (rowMarked rows r) [
-      | true ↦ below (learnRow file r) rows keys r (sidesOf file rows keys r (rowAt file r) .left)
+      | true ↦ bothSides (learnRow file r) rows keys r (sidesOf file rows keys r (rowAt file r))
       | false ↦ stateOf rows keys false
     ]
 

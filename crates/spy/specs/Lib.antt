@@ -1,2 +1,3 @@
 pub mod Closure
 pub mod Made
+pub mod Knowledge

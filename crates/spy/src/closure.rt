@@ -170,7 +170,9 @@ fn reopen(file: &[u8], rows: &mut [u8; 1024], keys: &mut [u8; 128], r: u16) -> b
     let known = row_marked(rows, r);
     if known {
         let sides = sides_of(file, rows, keys, r);
-        learn_below(file, rows, keys, r, sides.left)
+        let left = learn_below(file, rows, keys, r, sides.left);
+        let right = learn_below(file, rows, keys, r, sides.right);
+        left | right
     } else {
         false
     }

@@ -1,7 +1,9 @@
--- `spy::closure::reopen` meets its contract: the test says whether the row is marked, and its left side is what `sides_of` ensures.
+-- `spy::closure::reopen` meets its contract: the test says whether the row is marked, and its sides are what `sides_of` ensures.
 -- Assumes nothing.
 use mathlib.Core.Path.{sym, _∙_}
+use denote.Ref.{now}
 use Rattle.spy.specs.Closure.{reopenRow}
+use Rattle.spy.proofs.Depth.{reopen-open}
 use borrow.Author.Needs.{needs}
 use Rattle.spy.proofs.closure.reopen.Statement.{statement}
 use Rattle.spy.proofs.closure.reopen.Tie as tie
@@ -13,7 +15,12 @@ use Rattle.spy.proofs.closure.sides_of.Reads as sides-of-reads
 
 returns : tie.Need-returns
 returns c =
-    rw (sym (c .before .before .before .before .before .before .before .row-marked .ensures) ∙ c .before .before .before .before .before .before .if1 .taken, reopenRow, ← c .before .before .before .sides-of .ensures) (c .learn-below .ensures)
+    let a = c .before .before .before .before .before .before .before .before .before .before .before .before .before .args in
+    reopen-open (now (a .file)) (now (a .rows)) (now (a .keys)) (a .r)
+    (sym (c .before .before .before .before .before .before .before .before .before .before .row-marked .ensures) ∙ c .before .before .before .before .before .before .before .before .before .if1 .taken)
+    _ (c .before .before .before .before .before .before .sides-of .ensures)
+    _ _ _ (c .before .before .before .learn-below .ensures)
+    _ _ _ (c .learn-below2 .ensures)
 
 returns-2 : tie.Need-returns-2
 returns-2 c = rw (sym (c .before .row-marked .ensures) ∙ c .if1 .left, reopenRow)
@@ -21,4 +28,10 @@ returns-2 c = rw (sym (c .before .row-marked .ensures) ∙ c .if1 .left, reopenR
 pub reopen-spec : {M : Type 1} → statement M
 reopen-spec =
     tie.close
-    (tie.spec (λ c κs. search needs) (λ c κs. search needs) (λ c κs. search needs) returns returns-2)
+    (tie.spec
+    (λ c κs. search needs)
+    (λ c κs. search needs)
+    (λ c κs. search needs)
+    (λ c κs. search needs)
+    returns
+    returns-2)

@@ -20,12 +20,12 @@ returns-3 : tie.Need-returns-3
 returns-3 c = rw (← c .before .before .before .before .row-at .ensures, c .before .before .kind .given .1) (c .row-made .ensures)
 
 returns-4 : tie.Need-returns-4
-returns-4 c = 
+returns-4 c =
     rw
     (← c .before .before .before .before .before .row-at .ensures, c .before .before .before .kind2 .given .1, c .row-made2 .ensures, c .before .row-marked .ensures)
 
 returns-5 : tie.Need-returns-5
-returns-5 c = 
+returns-5 c =
     rw
     (← c .before .before .before .before .before .row-at .ensures, c .before .before .before .kind3 .given .1, c .row-made4 .ensures, c .before .row-made3 .ensures)
 

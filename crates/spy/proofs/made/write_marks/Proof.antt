@@ -39,18 +39,18 @@ loop-less : tie.Need-loop-less Inv-loop μ-loop
 loop-less c = omega arith
 
 loop-again : tie.Need-loop-again Inv-loop μ-loop
-loop-again c = 
+loop-again c =
     let l = c .before .before .before .before .before .before .before .loop in
     (omega arith, marks-more _ _ (l .r) _ (l .marks) _ _ (l .inv .1) (c .before .before .before .before .mark-of .ensures) (c .before .before .put .ensures))
 
 same-length : tie.Need-same-length Inv-loop μ-loop
-same-length c = 
+same-length c =
     let a = c .before .before .before .before .args in
     let l = c .before .loop in
     ap length (l .inv .1) ∙ marks-length (now (a .file)) (now (a .rows)) (l .r) (now (a .marks))
 
 returns : tie.Need-returns Inv-loop μ-loop
-returns c = 
+returns c =
     let a = c .before .before .before .before .args in
     let l = c .before .loop in
     let e : l .r ≡ a .n = omega arith in
