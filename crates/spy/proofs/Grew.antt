@@ -272,7 +272,7 @@ module _ (file : List ℕ) (P : Promised file) where
         (g .0, λ _. g .1)
     below-cases rs ks x r k false e = (grew-still rs ks r k, λ l. absurd (true≢false (sym (lt-ltb x row l) ∙ e)))
 
-    below-grew : (rs ks : List ℕ) (x : ℕ) → length rs ≡ 1024 → length ks ≡ 128 →
+    pub below-grew : (rs ks : List ℕ) (x : ℕ) → length rs ≡ 1024 → length ks ≡ 128 →
       Grew rs ks (below go rs ks row x) × (x < row → Marked (below go rs ks row x .rows) x)
     below-grew rs ks x r k = below-cases rs ks x r k (ltb x row) refl
 

@@ -3,3 +3,4 @@ pub mod Folds
 pub mod Marks
 pub mod Grew
 pub mod Passes
+pub mod Sound

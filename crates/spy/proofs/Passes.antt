@@ -78,7 +78,7 @@ module _ (file : List ℕ) (P : Promised file) where
           (b .0, λ e. closed-same file P rs ks (bothSides (learnRow file r) rs ks r (sides-at file P rs ks r)) (b .0) e r l (b .1) (b .2))
       go (inr u) = rw (u, reopenRow) (grew-still file P rs ks rr kr, λ e m. absurd (true≢false (sym m ∙ u)))
 
-  pass-grew : (n : ℕ) (rs ks : List ℕ) → n ≤ rowsOf file → length rs ≡ 1024 → length ks ≡ 128 →
+  pub pass-grew : (n : ℕ) (rs ks : List ℕ) → n ≤ rowsOf file → length rs ≡ 1024 → length ks ≡ 128 →
     Grew file P rs ks (passRows file n rs ks) ×
       (passRows file n rs ks .fresh ≡ false → (x : ℕ) → x < n → Closed file P (passRows file n rs ks .rows) (passRows file n rs ks .keys) x)
   unfolding passRows
