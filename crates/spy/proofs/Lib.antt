@@ -4,3 +4,7 @@ pub mod Marks
 pub mod Grew
 pub mod Passes
 pub mod Sound
+pub mod Exact
+pub mod Starting
+pub mod Makes
+pub mod Knows

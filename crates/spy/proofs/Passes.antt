@@ -61,7 +61,7 @@ unmarked-most (suc n) rs = omega (arith, unmarked-most n rs, one (rowMarked rs n
     one false = omega arith
 
 module _ (file : List ℕ) (P : Promised file) where
-  abbrev AllClosed : List ℕ → List ℕ → Type 0
+  abbrev pub AllClosed : List ℕ → List ℕ → Type 0
   AllClosed rs ks = (x : ℕ) → x < rowsOf file → Closed file P rs ks x
 
   reopen-grew : (rs ks : List ℕ) (r : ℕ) → length rs ≡ 1024 → length ks ≡ 128 → r < rowsOf file →

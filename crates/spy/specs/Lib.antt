@@ -1,3 +1,4 @@
 pub mod Closure
 pub mod Made
 pub mod Knowledge
+pub mod Promises

@@ -7,7 +7,7 @@ use trace::EventNo;
 use trace::Reading;
 ghost use mathlib.Core.Path.{_≡_};
 ghost use Rattle.spy.specs.Closure.{knownAfter, zeros};
-ghost use Rattle.spy.specs.Knowledge.{marksAfter, answerReadable, bytesReadable};
+ghost use Rattle.spy.specs.Knowledge.{Knows, marksAfter, answerReadable, bytesReadable};
 
 pub enum Answer {
     Refused(Cause),
@@ -54,4 +54,15 @@ fn answer_readable(file: &[u8], n: usize, buffer: &mut [u8]) -> Answer
     }
     write(file, n as u16, buffer);
     Answer::Written
+}
+
+// The knowledge question: a mark for each row after the first n events, legal or not.
+pub fn knowledge(file: &[u8], n: usize, buffer: &mut [u8]) -> Answer
+    ensures { λ a. ⌜ Knows (now (file .entry)) n (now (buffer .entry)) a (now (buffer .exit)) ⌝ }
+{
+    let reading = trace::read(file);
+    match reading {
+        Reading::Refused(cause) => Answer::Refused(cause),
+        Reading::Readable => answer_readable(file, n, buffer),
+    }
 }
