@@ -124,11 +124,11 @@ module _ (file : List ℕ) (P : Promised file) where
     marks-analysed x l a = marked x l refl (complete a)
 
   -- one event more
-  data Newest (X : paper.msg) : Event → Type 0 where
+  pub data Newest (X : paper.msg) : Event → Type 0 where
     in-says : {a b : AgentNo} {r : RowNo} → message file (r .0) ≡ X → Newest X (Says a b r)
     in-notes : {a : AgentNo} {r : RowNo} → bad file (a .0) → message file (r .0) ≡ X → Newest X (Notes a r)
 
-  newest : (E : Event) {evs : trace} {X : paper.msg} → H (eventMeant file E ∷ evs) X → H evs X ⊎ Newest X E
+  pub newest : (E : Event) {evs : trace} {X : paper.msg} → H (eventMeant file E ∷ evs) X → H evs X ⊎ Newest X E
   newest E (start s) = inl (start s)
   newest (Says a b r) (said here) = inr (in-says refl)
   newest (Says a b r) (said (there i)) = inl (said i)
@@ -137,7 +137,7 @@ module _ (file : List ℕ) (P : Promised file) where
   newest (Notes a r) (noted c here) = inr (in-notes c refl)
   newest (Notes a r) (noted c (there i)) = inl (noted c i)
 
-  older : {e : event.event} {evs : trace} (X : paper.msg) → H evs X → H (e ∷ evs) X
+  pub older : {e : event.event} {evs : trace} (X : paper.msg) → H evs X → H (e ∷ evs) X
   older X (start s) = start s
   older X (said i) = said (there i)
   older X (noted c i) = noted c (there i)

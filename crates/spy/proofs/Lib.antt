@@ -8,3 +8,4 @@ pub mod Exact
 pub mod Starting
 pub mod Makes
 pub mod Knows
+pub mod Seen

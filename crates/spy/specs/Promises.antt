@@ -1,12 +1,48 @@
--- What the knowledge question promises beside its relation: document 01, "Questions and their replies".
-use Prim.Native.Nat.{ℕ, _≤_}
-use mathlib.Core.List.{List}
+-- What the knowledge question promises beside its relation: document 01, "What the spy sees" and "Questions and their replies".
+use Prim.Native.Nat.{ℕ, zero, suc, _<_, _≤_}
+use mathlib.Core.Bool.{Bool, true, false, not}
+use mathlib.Core.List.{List, [], _∷_}
 use mathlib.Core.Path.{_≡_}
+use lib.ListN.{getD}
+use Rattle.trace.specs.File.{rowsOf, compromisedIn}
+use Rattle.trace.specs.Rows.{choose, rowAt}
+use Rattle.trace.specs.Events.{eventAt}
+use Rattle.trace.specs.declared.Event.{Event}
+use Rattle.trace.specs.declared.Event.the-variants.{Says, Notes}
 use Rattle.spy.specs.Knowledge.{Knows}
 use Rattle.spy.specs.declared.Answer.{Answer}
+use Rattle.spy.specs.declared.Answer.the-variants.{Written}
 
 -- one answer only: the reply and every lent byte
 abbrev pub OneAnswer : Type 0
 OneAnswer =
     (file : List ℕ) (n : ℕ) (before : List ℕ) (a b : Answer) (after after′ : List ℕ) →
     Knows file n before a after → Knows file n before b after′ → (a ≡ b) × (after ≡ after′)
+
+-- knowledge only grows with the number of events
+abbrev pub OnlyGrows : Type 0
+OnlyGrows =
+    (file : List ℕ) (n m : ℕ) (before before′ after after′ : List ℕ) → n ≤ m →
+    Knows file n before Written after → Knows file m before′ Written after′ →
+    (r : ℕ) → r < rowsOf file → getD after r 0 ≤ getD after′ r 0
+
+-- the first n events, newest first, once the notes of uncompromised agents are struck out
+abbrev pub struckOut : List ℕ → Event → Bool
+struckOut file (Says a b r) = false
+struckOut file (Notes a r) = not (compromisedIn file (a .0))
+
+unfoldable pub eventsLeft : List ℕ → ℕ → List Event
+eventsLeft file zero = []
+eventsLeft file (suc n) = choose (struckOut file (eventAt file n)) (eventsLeft file n) (eventAt file n ∷ eventsLeft file n)
+
+pub record SameRows (file other : List ℕ) : Type 0 where
+  pub count : rowsOf file ≡ rowsOf other
+  pub each : (r : ℕ) → r < rowsOf file → rowAt file r ≡ rowAt other r
+  pub compromised : (A : ℕ) → compromisedIn file A ≡ compromisedIn other A
+
+-- what the spy sees decides what it knows: document 01's paragraph
+abbrev pub SeenDecides : Type 0
+SeenDecides =
+    (file other : List ℕ) (n m : ℕ) (before before′ after after′ : List ℕ) → SameRows file other → eventsLeft file n ≡ eventsLeft other m →
+    Knows file n before Written after → Knows other m before′ Written after′ →
+    (r : ℕ) → r < rowsOf file → getD after r 0 ≡ getD after′ r 0
