@@ -9,3 +9,4 @@ pub mod Starting
 pub mod Makes
 pub mod Knows
 pub mod Seen
+pub mod Cases

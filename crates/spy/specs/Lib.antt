@@ -2,3 +2,4 @@ pub mod Closure
 pub mod Made
 pub mod Knowledge
 pub mod Promises
+pub mod Cases
