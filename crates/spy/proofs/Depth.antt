@@ -78,8 +78,8 @@ module _ (file : List ℕ) where
     below-left x l = rw (le-ltb x row l, below)
 
     pub reopen-open : rowMarked rs row ≡ true →
-      (sides : Sides) → sides ≡ sidesOf file rs ks row (rowAt file row) →
-      (lr lk : List ℕ) (lf : Bool) → stateOf lr lk lf ≡ below (learnRow file row) rs ks row (sides .left) →
-      (rr rk : List ℕ) (rf : Bool) → stateOf rr rk rf ≡ below (learnRow file row) lr lk row (sides .right) →
-      stateOf rr rk (lf || rf) ≡ reopenRow file rs ks row
+        (sides : Sides) → sides ≡ sidesOf file rs ks row (rowAt file row) →
+        (lr lk : List ℕ) (lf : Bool) → stateOf lr lk lf ≡ below (learnRow file row) rs ks row (sides .left) →
+        (rr rk : List ℕ) (rf : Bool) → stateOf rr rk rf ≡ below (learnRow file row) lr lk row (sides .right) →
+        stateOf rr rk (lf || rf) ≡ reopenRow file rs ks row
     reopen-open m sides se lr lk lf le rr rk rf re = rw (m, reopenRow, ← se, ← le, ← re)

@@ -56,10 +56,10 @@ module _ (file : List ℕ) (P : Promised file) where
     abbrev SidesMarked : ℕ → Row → Type 0
     SidesMarked x R =
         (sidesOf file rs ks x R .left < x → Marked rs (sidesOf file rs ks x R .left)) ×
-          (sidesOf file rs ks x R .right < x → Marked rs (sidesOf file rs ks x R .right))
+        (sidesOf file rs ks x R .right < x → Marked rs (sidesOf file rs ks x R .right))
 
     pair-row : (x : ℕ) (R : Row) {X Y : paper.msg} → x < rowsOf file → Keeps file x R → Unfolds (message file) R (paper.Pair X Y) →
-      SidesMarked x R → Has rs X × Has rs Y
+        SidesMarked x R → Has rs X × Has rs Y
     pair-row x R l (pair a b) (asPair {x = i} {y = j} p q) c = ((i .0, omega arith, p, c .0 a), (j .0, omega arith, q, c .1 b))
 
     pair-has : {X Y : paper.msg} → Has rs (paper.Pair X Y) → Has rs X × Has rs Y
@@ -86,22 +86,22 @@ module _ (file : List ℕ) (P : Promised file) where
     public-known (inr (x, l, e, m)) = public-held (rowAt file x) (rw e at (P .unfolds x l)) (g .held x l m)
 
     session-marked : (k : ℕ) {r : paper.role} {X Y Z : paper.nonce} → k < rowsOf file → message file k ≡ paper.Key (paper.sessionK r X Y Z) →
-      Holds (paper.Key (paper.sessionK r X Y Z)) → Marked rs k
+        Holds (paper.Key (paper.sessionK r X Y Z)) → Marked rs k
     session-marked k l e (inr (x, lx, ex, m)) = subst (Marked rs) (P .apart x k lx l (ex ∙ sym e)) m
 
     opens-row : (k : ℕ) (R : Row) {K : paper.key} → k < rowsOf file → message file k ≡ paper.Key K → Unfolds (message file) R (paper.Key K) →
-      Holds (paper.Key (paper.invKey K)) → opensRow rs ks k R ≡ true
+        Holds (paper.Key (paper.invKey K)) → opensRow rs ks k R ≡ true
     unfolding paper.invKey
     opens-row k R l e (asPublic q) h = rw q (private-known h)
     opens-row k R l e (asPrivate q) h = rw q (public-known h)
     opens-row k R l e (asSession p q t u) h = session-marked k l e h
 
     opens-complete : (k : ℕ) {K : paper.key} → k < rowsOf file → message file k ≡ paper.Key K → Holds (paper.Key (paper.invKey K)) →
-      opens file rs ks k ≡ true
+        opens file rs ks k ≡ true
     opens-complete k l e h = opens-row k (rowAt file k) l e (rw e at (P .unfolds k l)) h
 
     crypt-row : (x : ℕ) (R : Row) {K : paper.key} {X : paper.msg} → x < rowsOf file → Keeps file x R →
-      Unfolds (message file) R (paper.Crypt K X) → Holds (paper.Key (paper.invKey K)) → SidesMarked x R → Has rs X
+        Unfolds (message file) R (paper.Crypt K X) → Holds (paper.Key (paper.invKey K)) → SidesMarked x R → Has rs X
     crypt-row x R l (crypt {k = k} b h) (asCrypt {x = y} p q) i c =
         let o = opens-complete (k .0) (omega (arith, b .below)) p i in
         (y .0, omega arith, q, (rw o at c) .0 h)
@@ -147,18 +147,18 @@ module _ (file : List ℕ) (P : Promised file) where
       record {
         rows = λ x l m. analz-mono older (s .rows x l m);
         pubs = λ a l k. analz-mono older (s .pubs a l k);
-        pris = λ a l k. analz-mono older (s .pris a l k)
+        pris = λ a l k. analz-mono older (s .pris a l k);
       }
 
   has-keep : (rs rs′ : List ℕ) {X : paper.msg} → ((x : ℕ) → Marked rs x → Marked rs′ x) → Starts (bad file) X ⊎ Has rs X →
-    Starts (bad file) X ⊎ Has rs′ X
+      Starts (bad file) X ⊎ Has rs′ X
   has-keep rs rs′ k (inl s) = inl s
   has-keep rs rs′ k (inr (x, l, e, m)) = inr (x, l, e, k x m)
 
   -- a row is seen, by an event that shows it
   good-see : (e : event.event) (evs : trace) (rs ks : List ℕ) (r : ℕ) → Good evs rs ks → r < rowsOf file →
-    H (e ∷ evs) (message file r) → ((X : paper.msg) → H (e ∷ evs) X → H evs X ⊎ (message file r ≡ X)) →
-    Good (e ∷ evs) (seeRow file rs ks r .rows) (seeRow file rs ks r .keys)
+      H (e ∷ evs) (message file r) → ((X : paper.msg) → H (e ∷ evs) X → H evs X ⊎ (message file r ≡ X)) →
+      Good (e ∷ evs) (seeRow file rs ks r .rows) (seeRow file rs ks r .keys)
   good-see e evs rs ks r g l h new =
       let s = see-settles file P rs ks r (g .room) (g .room-keys) l (g .closed) in
       record {
@@ -169,17 +169,17 @@ module _ (file : List ℕ) (P : Promised file) where
         held = s .0 .held (g .held);
         keys = λ A b. s .0 .keys (64 + A) (g .keys A b);
         rows = λ x A lx b q. s .0 .rows x (g .rows x A lx b q);
-        seen = λ X i. was (seeRow file rs ks r .rows) (s .0 .rows) (s .1) X (new X i)
+        seen = λ X i. was (seeRow file rs ks r .rows) (s .0 .rows) (s .1) X (new X i);
       }
     where
       was : (rs′ : List ℕ) → ((x : ℕ) → Marked rs x → Marked rs′ x) → Marked rs′ r → (X : paper.msg) → H evs X ⊎ (message file r ≡ X) →
-        Starts (bad file) X ⊎ Has rs′ X
+          Starts (bad file) X ⊎ Has rs′ X
       was rs′ k m X (inl i) = has-keep rs rs′ k (g .seen X i)
       was rs′ k m X (inr q) = inr (r, l, q, m)
 
   -- an event that is not seen changes nothing
   good-pass : (e : event.event) (evs : trace) (rs ks : List ℕ) → Good evs rs ks → ((X : paper.msg) → H (e ∷ evs) X → H evs X) →
-    Good (e ∷ evs) rs ks
+      Good (e ∷ evs) rs ks
   good-pass e evs rs ks g old =
       record {
         room = g .room;
@@ -189,12 +189,12 @@ module _ (file : List ℕ) (P : Promised file) where
         held = g .held;
         keys = g .keys;
         rows = g .rows;
-        seen = λ X i. g .seen X (old X i)
+        seen = λ X i. g .seen X (old X i);
       }
 
   good-note : (evs : trace) (rs ks : List ℕ) (a : AgentNo) (r : RowNo) → Good evs rs ks → r .0 < rowsOf file →
-    (compromisedIn file (a .0) ≡ true) ⊎ (compromisedIn file (a .0) ≡ false) →
-    Good (eventMeant file (Notes a r) ∷ evs) (seeEvent file rs ks (Notes a r) .rows) (seeEvent file rs ks (Notes a r) .keys)
+      (compromisedIn file (a .0) ≡ true) ⊎ (compromisedIn file (a .0) ≡ false) →
+      Good (eventMeant file (Notes a r) ∷ evs) (seeEvent file rs ks (Notes a r) .rows) (seeEvent file rs ks (Notes a r) .keys)
   good-note evs rs ks a r g l (inl b) =
       rw (b, seeEvent) (good-see (eventMeant file (Notes a r)) evs rs ks (r .0) g l (noted b here) (λ X h. shown (newest (Notes a r) h)))
     where
@@ -209,7 +209,7 @@ module _ (file : List ℕ) (P : Promised file) where
       hidden (inr (in-notes c q)) = absurd (true≢false (sym c ∙ b))
 
   pub good-event : (evs : trace) (rs ks : List ℕ) (E : Event) → Good evs rs ks → Exists file E →
-    Good (eventMeant file E ∷ evs) (seeEvent file rs ks E .rows) (seeEvent file rs ks E .keys)
+      Good (eventMeant file E ∷ evs) (seeEvent file rs ks E .rows) (seeEvent file rs ks E .keys)
   good-event evs rs ks (Says a b r) g (says la lb l) =
       good-see (eventMeant file (Says a b r)) evs rs ks (r .0) g l (said here) (λ X h. shown (newest (Says a b r) h))
     where

@@ -60,7 +60,7 @@ module _ (file : List ℕ) (P : Promised file) where
   Closed rs ks x =
       Marked rs x →
       ((sides-at rs ks x .left < x → Marked rs (sides-at rs ks x .left)) ×
-        (sides-at rs ks x .right < x → Marked rs (sides-at rs ks x .right)))
+      (sides-at rs ks x .right < x → Marked rs (sides-at rs ks x .right)))
 
   pub record Grew (rs ks : List ℕ) (t : State) : Type 0 where
     pub room : length (t .rows) ≡ 1024
@@ -68,7 +68,7 @@ module _ (file : List ℕ) (P : Promised file) where
     pub rows : (x : ℕ) → Marked rs x → Marked (t .rows) x
     pub keys : (i : ℕ) → Known ks i → Known (t .keys) i
     pub held : ((x : ℕ) → x < rowsOf file → Marked rs x → Held ks (rowAt file x)) →
-      (x : ℕ) → x < rowsOf file → Marked (t .rows) x → Held (t .keys) (rowAt file x)
+        (x : ℕ) → x < rowsOf file → Marked (t .rows) x → Held (t .keys) (rowAt file x)
     pub same : t .fresh ≡ false → (k : ℕ) → k < rowsOf file → opens file (t .rows) (t .keys) k ≡ opens file rs ks k
     pub closed : t .fresh ≡ false → (x : ℕ) → x < rowsOf file → Closed rs ks x → Closed (t .rows) (t .keys) x
     pub new : t .fresh ≡ true → (x : ℕ) × (x < 1024) × (rowMarked rs x ≡ false) × Marked (t .rows) x
@@ -83,7 +83,7 @@ module _ (file : List ℕ) (P : Promised file) where
         held = λ h. h;
         same = λ _ k l. refl;
         closed = λ _ x l c. c;
-        new = λ e. absurd (true≢false (sym e))
+        new = λ e. absurd (true≢false (sym e));
       }
 
   -- a mark that is not there after was not there before
@@ -95,7 +95,7 @@ module _ (file : List ℕ) (P : Promised file) where
       go (inr f) = f
 
   pub grew-then : {rs ks : List ℕ} {s t : State} → Grew rs ks s → Grew (s .rows) (s .keys) t →
-    Grew rs ks (stateOf (t .rows) (t .keys) (s .fresh || t .fresh))
+      Grew rs ks (stateOf (t .rows) (t .keys) (s .fresh || t .fresh))
   grew-then {rs} {ks} {s} {t} g h =
       record {
         room = h .room;
@@ -105,19 +105,20 @@ module _ (file : List ℕ) (P : Promised file) where
         held = λ held. h .held (g .held held);
         same = λ e k l. h .same (or-false-right (s .fresh) (t .fresh) e) k l ∙ g .same (or-false (s .fresh) (t .fresh) e) k l;
         closed = λ e x l c. h .closed (or-false-right (s .fresh) (t .fresh) e) x l (g .closed (or-false (s .fresh) (t .fresh) e) x l c);
-        new = λ e. ⊎-elim (λ a. from-first (g .new a)) (λ b. from-second (h .new b)) (or-cases (s .fresh) (t .fresh) e)
+        new = λ e. ⊎-elim (λ a. from-first (g .new a)) (λ b. from-second (h .new b)) (or-cases (s .fresh) (t .fresh) e);
       }
     where
       from-first : (x : ℕ) × (x < 1024) × (rowMarked rs x ≡ false) × Marked (s .rows) x →
-        (x : ℕ) × (x < 1024) × (rowMarked rs x ≡ false) × Marked (t .rows) x
+          (x : ℕ) × (x < 1024) × (rowMarked rs x ≡ false) × Marked (t .rows) x
       from-first (x, l, u, m) = (x, l, u, h .rows x m)
+
       from-second : (x : ℕ) × (x < 1024) × (rowMarked (s .rows) x ≡ false) × Marked (t .rows) x →
-        (x : ℕ) × (x < 1024) × (rowMarked rs x ≡ false) × Marked (t .rows) x
+          (x : ℕ) × (x < 1024) × (rowMarked rs x ≡ false) × Marked (t .rows) x
       from-second (x, l, u, m) = (x, l, unmarked-before rs (s .rows) (g .rows) x u, m)
 
   -- sides depend on the state by way of `opens` alone
   sides-same : (rs ks rs′ ks′ : List ℕ) → ((k : ℕ) → k < rowsOf file → opens file rs′ ks′ k ≡ opens file rs ks k) →
-    (x : ℕ) (R : Row) → x < rowsOf file → Keeps file x R → sidesOf file rs′ ks′ x R ≡ sidesOf file rs ks x R
+      (x : ℕ) (R : Row) → x < rowsOf file → Keeps file x R → sidesOf file rs′ ks′ x R ≡ sidesOf file rs ks x R
   sides-same rs ks rs′ ks′ same x R l (agent h) = refl
   sides-same rs ks rs′ ks′ same x R l number = refl
   sides-same rs ks rs′ ks′ same x R l nonce = refl
@@ -131,11 +132,11 @@ module _ (file : List ℕ) (P : Promised file) where
 
   -- a closed row stays closed where marks grow and `opens` stays
   closed-keep : (rs ks rs′ ks′ : List ℕ) → ((x : ℕ) → Marked rs x → Marked rs′ x) →
-    ((k : ℕ) → k < rowsOf file → opens file rs′ ks′ k ≡ opens file rs ks k) →
-    (x : ℕ) → x < rowsOf file →
-    (sides-at rs ks x .left < x → Marked rs (sides-at rs ks x .left)) ×
+      ((k : ℕ) → k < rowsOf file → opens file rs′ ks′ k ≡ opens file rs ks k) →
+      (x : ℕ) → x < rowsOf file →
+      (sides-at rs ks x .left < x → Marked rs (sides-at rs ks x .left)) ×
       (sides-at rs ks x .right < x → Marked rs (sides-at rs ks x .right)) →
-    (sides-at rs′ ks′ x .left < x → Marked rs′ (sides-at rs′ ks′ x .left)) ×
+      (sides-at rs′ ks′ x .left < x → Marked rs′ (sides-at rs′ ks′ x .left)) ×
       (sides-at rs′ ks′ x .right < x → Marked rs′ (sides-at rs′ ks′ x .right))
   closed-keep rs ks rs′ ks′ grow same x l c =
       rw (sides-same rs ks rs′ ks′ same x (rowAt file x) l (P .keeps x l))
@@ -179,7 +180,7 @@ module _ (file : List ℕ) (P : Promised file) where
   opens-other rs ks room row k (Pair x y) n = refl
 
   mark-same : (rs ks rs₀ ks₀ : List ℕ) → length rs ≡ 1024 → (row k : ℕ) → sides-at rs₀ ks₀ row .key ≡ false →
-    opens file (set rs row 1) (knowRow ks (rowAt file row)) k ≡ opens file rs ks k
+      opens file (set rs row 1) (knowRow ks (rowAt file row)) k ≡ opens file rs ks k
   mark-same rs ks rs₀ ks₀ room row k e =
       rw (knowRow-none rs₀ ks₀ ks row (rowAt file row) e) (go (ℕ-discrete k row))
     where
@@ -202,8 +203,8 @@ module _ (file : List ℕ) (P : Promised file) where
 
   -- a row is marked, after both its sides
   module _ (rs ks : List ℕ) (row : ℕ) (in-file : row < rowsOf file) (unmarked : rowMarked rs row ≡ false) (b : State) (g : Grew rs ks b)
-    (left : sides-at rs ks row .left < row → Marked (b .rows) (sides-at rs ks row .left))
-    (right : sides-at rs ks row .right < row → Marked (b .rows) (sides-at rs ks row .right)) where
+      (left : sides-at rs ks row .left < row → Marked (b .rows) (sides-at rs ks row .left))
+      (right : sides-at rs ks row .right < row → Marked (b .rows) (sides-at rs ks row .right)) where
     abbrev R : Row
     R = rowAt file row
 
@@ -226,7 +227,7 @@ module _ (file : List ℕ) (P : Promised file) where
     same-t e k l = same-b e k ∙ g .same (or-false (b .fresh) _ e) k l
 
     held-t : ((x : ℕ) → x < rowsOf file → Marked rs x → Held ks (rowAt file x)) →
-      (x : ℕ) → x < rowsOf file → Marked (t .rows) x → Dec (x ≡ row) → Held (t .keys) (rowAt file x)
+        (x : ℕ) → x < rowsOf file → Marked (t .rows) x → Dec (x ≡ row) → Held (t .keys) (rowAt file x)
     held-t h x l m (yes q) = rw q (held-new (b .keys) (g .room-keys) row R (P .keeps row in-file))
     held-t h x l m (no n) =
         held-keep (b .keys) (t .keys) (λ i. knowRow-keep (b .keys) (g .room-keys) R i) (rowAt file x) (g .held h x l (others x n m))
@@ -250,7 +251,7 @@ module _ (file : List ℕ) (P : Promised file) where
           held = λ h x l m. held-t h x l m (ℕ-discrete x row);
           same = same-t;
           closed = λ e x l c. closed-t e x l c (ℕ-discrete x row);
-          new = λ e. (row, few, unmarked, row-same (b .rows) (g .room) row few)
+          new = λ e. (row, few, unmarked, row-same (b .rows) (g .room) row few);
         }
 
   -- learning a row, as far as a depth goes
@@ -264,7 +265,7 @@ module _ (file : List ℕ) (P : Promised file) where
     go = learnRow file d
 
     below-cases : (rs ks : List ℕ) (x : ℕ) → length rs ≡ 1024 → length ks ≡ 128 → (b : Bool) → ltb x row ≡ b →
-      Grew rs ks (elim b [ true ↦ go rs ks x | false ↦ stateOf rs ks false ]) ×
+        Grew rs ks (elim b [ true ↦ go rs ks x | false ↦ stateOf rs ks false ]) ×
         (x < row → Marked ((elim b as (λ _. State) [ true ↦ go rs ks x | false ↦ stateOf rs ks false ]) .rows) x)
     below-cases rs ks x r k true e =
         let l = ltb-true x row e in
@@ -273,11 +274,11 @@ module _ (file : List ℕ) (P : Promised file) where
     below-cases rs ks x r k false e = (grew-still rs ks r k, λ l. absurd (true≢false (sym (lt-ltb x row l) ∙ e)))
 
     pub below-grew : (rs ks : List ℕ) (x : ℕ) → length rs ≡ 1024 → length ks ≡ 128 →
-      Grew rs ks (below go rs ks row x) × (x < row → Marked (below go rs ks row x .rows) x)
+        Grew rs ks (below go rs ks row x) × (x < row → Marked (below go rs ks row x .rows) x)
     below-grew rs ks x r k = below-cases rs ks x r k (ltb x row) refl
 
     pub both-grew : (rs ks : List ℕ) (s : Sides) → length rs ≡ 1024 → length ks ≡ 128 →
-      Grew rs ks (bothSides go rs ks row s) ×
+        Grew rs ks (bothSides go rs ks row s) ×
         (s .left < row → Marked (bothSides go rs ks row s .rows) (s .left)) ×
         (s .right < row → Marked (bothSides go rs ks row s .rows) (s .right))
     both-grew rs ks s r k =
@@ -287,16 +288,17 @@ module _ (file : List ℕ) (P : Promised file) where
         (grew-then (l .0) (g .0), λ h. g .0 .rows (s .left) (l .1 h), λ h. g .1 h)
 
     with-grew : (rs ks : List ℕ) → length rs ≡ 1024 → length ks ≡ 128 → rowMarked rs row ≡ false →
-      Grew rs ks (learnWith go rs ks row (sides-at rs ks row) (rowAt file row)) ×
+        Grew rs ks (learnWith go rs ks row (sides-at rs ks row) (rowAt file row)) ×
         Marked (learnWith go rs ks row (sides-at rs ks row) (rowAt file row) .rows) row
     with-grew rs ks r k u =
-        let b = both-grew rs ks (sides-at rs ks row) r k in
-        (grew-mark rs ks row in-file u (bothSides go rs ks row (sides-at rs ks row)) (b .0) (b .1) (b .2),
-          row-same (bothSides go rs ks row (sides-at rs ks row) .rows) (b .0 .room) row (omega (arith, P .few-rows)))
+        let b = both-grew rs ks (sides-at rs ks row) r k in (
+          grew-mark rs ks row in-file u (bothSides go rs ks row (sides-at rs ks row)) (b .0) (b .1) (b .2),
+          row-same (bothSides go rs ks row (sides-at rs ks row) .rows) (b .0 .room) row (omega (arith, P .few-rows)),
+        )
 
   learn-cases : (d : ℕ) → Learns d → (rs ks : List ℕ) (row : ℕ) → length rs ≡ 1024 → length ks ≡ 128 → row < rowsOf file → row ≤ d →
-    (rowMarked rs row ≡ true) ⊎ (rowMarked rs row ≡ false) →
-    Grew rs ks (learnRow file (suc d) rs ks row) × Marked (learnRow file (suc d) rs ks row .rows) row
+      (rowMarked rs row ≡ true) ⊎ (rowMarked rs row ≡ false) →
+      Grew rs ks (learnRow file (suc d) rs ks row) × Marked (learnRow file (suc d) rs ks row .rows) row
   unfolding learnRow
   learn-cases d learns rs ks row r k l h (inl m) = rw (m, learnRow) (grew-still rs ks r k, m)
   learn-cases d learns rs ks row r k l h (inr u) =
@@ -308,7 +310,7 @@ module _ (file : List ℕ) (P : Promised file) where
 
   -- a row whose sides were learnt is closed, where no key became known
   pub closed-same : (rs ks : List ℕ) (b : State) → Grew rs ks b → b .fresh ≡ false → (x : ℕ) → x < rowsOf file →
-    (sides-at rs ks x .left < x → Marked (b .rows) (sides-at rs ks x .left)) →
-    (sides-at rs ks x .right < x → Marked (b .rows) (sides-at rs ks x .right)) → Closed (b .rows) (b .keys) x
+      (sides-at rs ks x .left < x → Marked (b .rows) (sides-at rs ks x .left)) →
+      (sides-at rs ks x .right < x → Marked (b .rows) (sides-at rs ks x .right)) → Closed (b .rows) (b .keys) x
   closed-same rs ks b g e x l p q m =
       rw (sides-same rs ks (b .rows) (b .keys) (g .same e) x (rowAt file x) l (P .keeps x l)) (p, q)

@@ -39,7 +39,7 @@ marks-after file P n l before room =
       size = marks-length file (s .rows) (rowsOf file) before;
       rows = marks-right file P (seenIn file n) (s .rows) (g .sound .rows)
           (marks-analysed file P (beginning file n) (s .rows) (s .keys) g) (rowsOf file) before (omega arith) room;
-      rest = marks-rest file (s .rows) (rowsOf file) before
+      rest = marks-rest file (s .rows) (rowsOf file) before;
     }
 
 pub knows-refused : (file : List ℕ) (n : ℕ) (before : List ℕ) {c : Cause} → reading file ≡ declared.the-variants.Refused c →
@@ -52,6 +52,7 @@ knows-readable file n before e = go (decLt (length before) (rowsOf file)) (decLt
   where
     told : Told file declared.the-variants.Readable
     told = rw e at (refusals .told file)
+
     go : Dec (length before < rowsOf file) → Dec (eventsOf file < n) → Knows file n before (answerReadable file n before) (bytesReadable file n before)
     go (yes s) m = rw (lt-ltb _ _ s, bytesReadable) (short told s)
     go (no s) (yes m) =

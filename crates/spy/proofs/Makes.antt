@@ -27,8 +27,8 @@ use Rattle.spy.proofs.Marks.{Marked}
 use Rattle.spy.proofs.Folds.{marks-length}
 
 module _ (file : List ℕ) (P : Promised file) (H : paper.msg → Type 0) (rows : List ℕ)
-  (sound : (x : ℕ) → x < rowsOf file → Marked rows x → Analz H (message file x))
-  (complete : (x : ℕ) → x < rowsOf file → Analz H (message file x) → Marked rows x) where
+    (sound : (x : ℕ) → x < rowsOf file → Marked rows x → Analz H (message file x))
+    (complete : (x : ℕ) → x < rowsOf file → Analz H (message file x) → Marked rows x) where
   abbrev Makes : paper.msg → Type 0
   Makes = Synth (Analz H)
 
@@ -44,7 +44,7 @@ module _ (file : List ℕ) (P : Promised file) (H : paper.msg → Type 0) (rows 
   byte-complete (neither n) s = absurd (n s)
 
   module _ (marks : List ℕ) (r : ℕ) (in-file : r < rowsOf file)
-    (lower : (x : ℕ) → x < r → Mark H (message file x) (getD marks x 0)) where
+      (lower : (x : ℕ) → x < r → Mark H (message file x) (getD marks x 0)) where
     lower-sound : (x : ℕ) → x < r → made marks x ≡ true → Makes (message file x)
     lower-sound x l e = byte-sound (lower x l) e
 
@@ -81,7 +81,7 @@ module _ (file : List ℕ) (P : Promised file) (H : paper.msg → Type 0) (rows 
     mark-right = go (bool-cases (rowMarked rows r)) (bool-cases (makes rows marks (rowAt file r)))
       where
         go : (rowMarked rows r ≡ true) ⊎ (rowMarked rows r ≡ false) →
-          (makes rows marks (rowAt file r) ≡ true) ⊎ (makes rows marks (rowAt file r) ≡ false) → Mark H (message file r) (markOf file rows marks r)
+            (makes rows marks (rowAt file r) ≡ true) ⊎ (makes rows marks (rowAt file r) ≡ false) → Mark H (message file r) (markOf file rows marks r)
         go (inl m) b = rw m (analysed (sound r in-file m))
         go (inr u) (inl e) =
             rw (u, e)
@@ -92,14 +92,14 @@ module _ (file : List ℕ) (P : Promised file) (H : paper.msg → Type 0) (rows 
             (λ s. true≢false (sym (makes-complete (rowAt file r) (P .keeps r in-file) (P .unfolds r in-file) (λ a. true≢false (sym (complete r in-file a) ∙ u)) s) ∙ e)))
 
   pub marks-right : (n : ℕ) (marks : List ℕ) → n ≤ rowsOf file → n ≤ length marks → (x : ℕ) → x < n →
-    Mark H (message file x) (getD (writeMarks file rows n marks) x 0)
+      Mark H (message file x) (getD (writeMarks file rows n marks) x 0)
   unfolding writeMarks
   marks-right zero marks h m x l = absurd (omega arith)
   marks-right (suc n) marks h m x l =
       go (lt-suc x n l) (λ (y : ℕ) (ly : y < n). marks-right n marks (omega arith) (omega arith) y ly)
     where
       go : (x < n) ⊎ (x ≡ n) → ((y : ℕ) → y < n → Mark H (message file y) (getD (writeMarks file rows n marks) y 0)) →
-        Mark H (message file x) (getD (set (writeMarks file rows n marks) n (markOf file rows (writeMarks file rows n marks) n)) x 0)
+          Mark H (message file x) (getD (set (writeMarks file rows n marks) n (markOf file rows (writeMarks file rows n marks) n)) x 0)
       go (inl lx) ih = rw (getD-set-other (writeMarks file rows n marks) n x (markOf file rows (writeMarks file rows n marks) n) 0 (omega arith)) (ih x lx)
       go (inr e) ih =
           rw (e, getD-set-same (writeMarks file rows n marks) n (markOf file rows (writeMarks file rows n marks) n) 0 (omega (arith, marks-length file rows n marks)))

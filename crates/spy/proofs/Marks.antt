@@ -83,6 +83,13 @@ none-marked m i e =
     let h = both (ltb i m) (eqb (getD (replicate m 0) i 0) 1) e in
     true≢false (sym (rw (getD-replicate {A = ℕ} m i 0 0 (ltb-true i m (h .0))) at (h .1)))
 
+-- public keys stand at 0 on
+pub public-marked : (ks : List ℕ) (a : ℕ) → keyMarked ks (0 + a) ≡ keyMarked ks a
+public-marked ks a = let e : 0 + a ≡ a = omega arith in rw e
+
+pub public-known : (ks : List ℕ) (a : ℕ) → know ks (0 + a) ≡ know ks a
+public-known ks a = let e : 0 + a ≡ a = omega arith in rw e
+
 module _ (rs : List ℕ) (room : length rs ≡ 1024) where
   pub marked-below : (x : ℕ) → Marked rs x → x < 1024
   marked-below = mark-below 1024 rs room

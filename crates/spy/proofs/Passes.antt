@@ -28,7 +28,7 @@ module _ (rs rs′ : List ℕ) (grow : (x : ℕ) → Marked rs x → Marked rs�
   one-falls n = go (bool-cases (rowMarked rs n)) (bool-cases (rowMarked rs′ n))
     where
       go : (rowMarked rs n ≡ true) ⊎ (rowMarked rs n ≡ false) → (rowMarked rs′ n ≡ true) ⊎ (rowMarked rs′ n ≡ false) →
-        choose (rowMarked rs′ n) 0 1 ≤ choose (rowMarked rs n) 0 1
+          choose (rowMarked rs′ n) 0 1 ≤ choose (rowMarked rs n) 0 1
       go (inl a) b = rw (a, grow n a) (omega arith)
       go (inr a) (inl b) = rw (a, b) (omega arith)
       go (inr a) (inr b) = rw (a, b) (omega arith)
@@ -44,7 +44,7 @@ module _ (rs rs′ : List ℕ) (grow : (x : ℕ) → Marked rs x → Marked rs�
   unmarked-less (suc n) x l u m = go (lt-suc x n l) (λ (h : x < n). unmarked-less n x h u m)
     where
       go : (x < n) ⊎ (x ≡ n) → (x < n → unmarked n rs′ < unmarked n rs) →
-        unmarked n rs′ + choose (rowMarked rs′ n) 0 1 < unmarked n rs + choose (rowMarked rs n) 0 1
+          unmarked n rs′ + choose (rowMarked rs′ n) 0 1 < unmarked n rs + choose (rowMarked rs n) 0 1
       go (inl h) ih = omega (arith, ih h, one-falls n)
       go (inr e) ih =
           let u′ : rowMarked rs n ≡ false = rw e at u in
@@ -65,12 +65,12 @@ module _ (file : List ℕ) (P : Promised file) where
   AllClosed rs ks = (x : ℕ) → x < rowsOf file → Closed file P rs ks x
 
   reopen-grew : (rs ks : List ℕ) (r : ℕ) → length rs ≡ 1024 → length ks ≡ 128 → r < rowsOf file →
-    Grew file P rs ks (reopenRow file rs ks r) ×
+      Grew file P rs ks (reopenRow file rs ks r) ×
       (reopenRow file rs ks r .fresh ≡ false → Closed file P (reopenRow file rs ks r .rows) (reopenRow file rs ks r .keys) r)
   reopen-grew rs ks r rr kr l = go (bool-cases (rowMarked rs r))
     where
       go : (rowMarked rs r ≡ true) ⊎ (rowMarked rs r ≡ false) →
-        Grew file P rs ks (reopenRow file rs ks r) ×
+          Grew file P rs ks (reopenRow file rs ks r) ×
           (reopenRow file rs ks r .fresh ≡ false → Closed file P (reopenRow file rs ks r .rows) (reopenRow file rs ks r .keys) r)
       go (inl m) =
           let b = both-grew file P r (learns file P r) r l (omega arith) rs ks (sides-at file P rs ks r) rr kr in
@@ -79,7 +79,7 @@ module _ (file : List ℕ) (P : Promised file) where
       go (inr u) = rw (u, reopenRow) (grew-still file P rs ks rr kr, λ e m. absurd (true≢false (sym m ∙ u)))
 
   pub pass-grew : (n : ℕ) (rs ks : List ℕ) → n ≤ rowsOf file → length rs ≡ 1024 → length ks ≡ 128 →
-    Grew file P rs ks (passRows file n rs ks) ×
+      Grew file P rs ks (passRows file n rs ks) ×
       (passRows file n rs ks .fresh ≡ false → (x : ℕ) → x < n → Closed file P (passRows file n rs ks .rows) (passRows file n rs ks .keys) x)
   unfolding passRows
   pass-grew zero rs ks h r k = (grew-still file P rs ks r k, λ e x l. absurd (omega arith))
@@ -87,11 +87,12 @@ module _ (file : List ℕ) (P : Promised file) where
       let s = passRows file n rs ks in
       let g = pass-grew n rs ks (omega arith) r k in
       let t = reopenRow file (s .rows) (s .keys) n in
-      let q = reopen-grew (s .rows) (s .keys) n (g .0 .room) (g .0 .room-keys) (omega arith) in
-      (grew-then file P (g .0) (q .0),
+      let q = reopen-grew (s .rows) (s .keys) n (g .0 .room) (g .0 .room-keys) (omega arith) in (
+        grew-then file P (g .0) (q .0),
         λ e x l.
-        ⊎-elim (λ (lx : x < n). q .0 .closed (or-false-right (s .fresh) (t .fresh) e) x (omega arith) (g .1 (or-false (s .fresh) (t .fresh) e) x lx))
-        (λ (ex : x ≡ n). rw ex (q .1 (or-false-right (s .fresh) (t .fresh) e))) (lt-suc x n l))
+            ⊎-elim (λ (lx : x < n). q .0 .closed (or-false-right (s .fresh) (t .fresh) e) x (omega arith) (g .1 (or-false (s .fresh) (t .fresh) e) x lx))
+            (λ (ex : x ≡ n). rw ex (q .1 (or-false-right (s .fresh) (t .fresh) e))) (lt-suc x n l),
+      )
 
   -- what settling keeps, and how it ends
   pub record Settled (rs ks : List ℕ) (t : State) : Type 0 where
@@ -100,7 +101,7 @@ module _ (file : List ℕ) (P : Promised file) where
     pub rows : (x : ℕ) → Marked rs x → Marked (t .rows) x
     pub keys : (i : ℕ) → Known ks i → Known (t .keys) i
     pub held : ((x : ℕ) → x < rowsOf file → Marked rs x → Held ks (rowAt file x)) →
-      (x : ℕ) → x < rowsOf file → Marked (t .rows) x → Held (t .keys) (rowAt file x)
+        (x : ℕ) → x < rowsOf file → Marked (t .rows) x → Held (t .keys) (rowAt file x)
     pub closed : AllClosed (t .rows) (t .keys)
 
   settled-here : (rs ks : List ℕ) (s : State) → Grew file P rs ks s → AllClosed (s .rows) (s .keys) → Settled rs ks s
@@ -115,34 +116,35 @@ module _ (file : List ℕ) (P : Promised file) where
         rows = λ x m. q .rows x (g .rows x m);
         keys = λ i m. q .keys i (g .keys i m);
         held = λ h. q .held (g .held h);
-        closed = q .closed
+        closed = q .closed;
       }
 
   settles : (d : ℕ) (rs ks : List ℕ) (s : State) → Grew file P rs ks s →
-    (s .fresh ≡ false → AllClosed (s .rows) (s .keys)) → (s .fresh ≡ true → unmarked 1024 (s .rows) < d) →
-    Settled rs ks (settle file d s) × ((x : ℕ) → Marked (s .rows) x → Marked (settle file d s .rows) x)
+      (s .fresh ≡ false → AllClosed (s .rows) (s .keys)) → (s .fresh ≡ true → unmarked 1024 (s .rows) < d) →
+      Settled rs ks (settle file d s) × ((x : ℕ) → Marked (s .rows) x → Marked (settle file d s .rows) x)
   unfolding settle
   settles zero rs ks s g c less = (settled-here rs ks s g (c (refuted _ (λ e. omega (arith, less e)))), λ x m. m)
   settles (suc d) rs ks s g c less =
       go (bool-cases (s .fresh))
       (λ (e : s .fresh ≡ true).
-        let p = passRows file (rowsOf file) (s .rows) (s .keys) in
-        let q = pass-grew (rowsOf file) (s .rows) (s .keys) (omega arith) (g .room) (g .room-keys) in
-        settles d (s .rows) (s .keys) p (q .0) (q .1)
-        (λ f. omega (arith, less e, fewer (s .rows) (p .rows) (q .0 .rows) (q .0 .new f))) .0)
+      let p = passRows file (rowsOf file) (s .rows) (s .keys) in
+      let q = pass-grew (rowsOf file) (s .rows) (s .keys) (omega arith) (g .room) (g .room-keys) in
+      settles d (s .rows) (s .keys) p (q .0) (q .1)
+      (λ f. omega (arith, less e, fewer (s .rows) (p .rows) (q .0 .rows) (q .0 .new f))) .0)
     where
       fewer : (rs rs′ : List ℕ) → ((x : ℕ) → Marked rs x → Marked rs′ x) →
-        (x : ℕ) × (x < 1024) × (rowMarked rs x ≡ false) × Marked rs′ x → unmarked 1024 rs′ < unmarked 1024 rs
+          (x : ℕ) × (x < 1024) × (rowMarked rs x ≡ false) × Marked rs′ x → unmarked 1024 rs′ < unmarked 1024 rs
       fewer rs rs′ grow (x, l, u, m) = unmarked-less rs rs′ grow 1024 x l u m
+
       go : (s .fresh ≡ true) ⊎ (s .fresh ≡ false) →
-        (s .fresh ≡ true → Settled (s .rows) (s .keys) (settle file d (passRows file (rowsOf file) (s .rows) (s .keys)))) →
-        Settled rs ks (settle file (suc d) s) × ((x : ℕ) → Marked (s .rows) x → Marked (settle file (suc d) s .rows) x)
+          (s .fresh ≡ true → Settled (s .rows) (s .keys) (settle file d (passRows file (rowsOf file) (s .rows) (s .keys)))) →
+          Settled rs ks (settle file (suc d) s) × ((x : ℕ) → Marked (s .rows) x → Marked (settle file (suc d) s .rows) x)
       go (inl e) ih = rw (e, settle) (settled-after g (ih e), ih e .rows)
       go (inr e) ih = rw (e, settle) (settled-here rs ks s g (c e), λ x m. m)
 
   -- a row is seen in a closed state: the state is closed again, and the row is marked
   pub see-settles : (rs ks : List ℕ) (row : ℕ) → length rs ≡ 1024 → length ks ≡ 128 → row < rowsOf file → AllClosed rs ks →
-    Settled rs ks (seeRow file rs ks row) × Marked (seeRow file rs ks row .rows) row
+      Settled rs ks (seeRow file rs ks row) × Marked (seeRow file rs ks row .rows) row
   see-settles rs ks row r k l c =
       let s = learnRow file (suc row) rs ks row in
       let g = learns file P (suc row) rs ks row r k l (omega arith) in
@@ -150,5 +152,5 @@ module _ (file : List ℕ) (P : Promised file) where
       (end .0, end .1 row (g .1))
     where
       few : (rs′ : List ℕ) → ((x : ℕ) → Marked rs x → Marked rs′ x) →
-        (x : ℕ) × (x < 1024) × (rowMarked rs x ≡ false) × Marked rs′ x → unmarked 1024 rs′ < 1024
+          (x : ℕ) × (x < 1024) × (rowMarked rs x ≡ false) × Marked rs′ x → unmarked 1024 rs′ < 1024
       few rs′ grow (x, lx, u, m) = omega (arith, unmarked-less rs rs′ grow 1024 x lx u m, unmarked-most 1024 rs)

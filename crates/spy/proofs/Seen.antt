@@ -54,7 +54,7 @@ begins file n zero l = let e : n ≡ 0 = omega arith in rw e whole
 begins file n (suc m) l = go (lt-suc n (suc m) (omega arith)) (λ (h : n ≤ m). begins file n m h)
   where
     go : (n < suc m) ⊎ (n ≡ suc m) → (n ≤ m → Beginning (beginning file n) (beginning file m)) →
-      Beginning (beginning file n) (eventMeant file (eventAt file m) ∷ beginning file m)
+        Beginning (beginning file n) (eventMeant file (eventAt file m) ∷ beginning file m)
     go (inl h) ih = earlier (ih (omega arith))
     go (inr e) ih = rw e whole
 
@@ -84,7 +84,7 @@ module _ (file : List ℕ) (P : Promised file) where
 
   -- what an event shows, it shows among those that are left
   seen-event : (E : Event) (es : List Event) {evs : trace} {X : msg} → Exists file E → (H evs X → Found X es) →
-    H (eventMeant file E ∷ evs) X → Found X (left E es)
+      H (eventMeant file E ∷ evs) X → Found X (left E es)
   seen-event (Says a b r) es {evs} {X} (says la lb l) ih h = go (newest file P (Says a b r) h)
     where
       go : H evs X ⊎ Newest file P X (Says a b r) → Found X (Says a b r ∷ es)
@@ -93,23 +93,23 @@ module _ (file : List ℕ) (P : Promised file) where
   seen-event (Notes a r) es {evs} {X} (notes la l) ih h = go (newest file P (Notes a r) h) (bool-cases (compromisedIn file (a .0)))
     where
       go : H evs X ⊎ Newest file P X (Notes a r) → (compromisedIn file (a .0) ≡ true) ⊎ (compromisedIn file (a .0) ≡ false) →
-        Found X (left (Notes a r) es)
+          Found X (left (Notes a r) es)
       go (inl i) (inl b) = rw b (found-later (ih i))
       go (inl i) (inr b) = rw b (ih i)
       go (inr (in-notes c q)) d = rw c (inr (by-notes l q))
 
   says-shown : {a b : AgentNo} {r : RowNo} {es : List Event} {evs : trace} {X : msg} → (Shown file X es → H evs X) →
-    Shown file X (Says a b r ∷ es) → H (eventMeant file (Says a b r) ∷ evs) X
+      Shown file X (Says a b r ∷ es) → H (eventMeant file (Says a b r) ∷ evs) X
   says-shown ih (by-says l q) = rw (← q) (said here)
   says-shown {X = X} ih (later i) = older file P X (ih i)
 
   notes-shown : {a : AgentNo} {r : RowNo} {es : List Event} {evs : trace} {X : msg} → bad file (a .0) → (Shown file X es → H evs X) →
-    Shown file X (Notes a r ∷ es) → H (eventMeant file (Notes a r) ∷ evs) X
+      Shown file X (Notes a r ∷ es) → H (eventMeant file (Notes a r) ∷ evs) X
   notes-shown b ih (by-notes l q) = rw (← q) (noted b here)
   notes-shown {X = X} b ih (later i) = older file P X (ih i)
 
   shown-event : (E : Event) (es : List Event) {evs : trace} {X : msg} → (Shown file X es → H evs X) → Shown file X (left E es) →
-    H (eventMeant file E ∷ evs) X
+      H (eventMeant file E ∷ evs) X
   shown-event (Says a b r) es ih i = says-shown ih i
   shown-event (Notes a r) es {evs} {X} ih i = go (bool-cases (compromisedIn file (a .0)))
     where
@@ -147,7 +147,7 @@ module _ (file other : List ℕ) (s : SameRows file other) where
   starts-same (own {A} b) = own (sym (s .compromised A) ∙ b)
 
   seen-within : (n m : ℕ) → Promised file → Promised other → n ≤ eventsOf file → eventsLeft file n ≡ eventsLeft other m →
-    Within (seenIn file n) (seenIn other m)
+      Within (seenIn file n) (seenIn other m)
   seen-within n m P Q l e X h = go (seen-shown file P n l h)
     where
       go : Starts (bad file) X ⊎ Shown file X (eventsLeft file n) → seenIn other m X
@@ -162,7 +162,7 @@ same-back s =
     record {
       count = sym (s .count);
       each = λ r l. sym (s .each r (rw (← s .count) at l));
-      compromised = λ A. sym (s .compromised A)
+      compromised = λ A. sym (s .compromised A);
     }
 
 pub seen-decides : SeenDecides

@@ -55,7 +55,7 @@ module _ (file : List ℕ) where
   keys-in (suc n) ks r A l b = go (lt-suc A n l) (λ (h : A < n). keys-in n ks r A h b)
     where
       go : (A < n) ⊎ (A ≡ n) → (A < n → Known (startKeys file n ks) (64 + A)) →
-        Known (choose (compromisedIn file n) (know (startKeys file n ks) (64 + n)) (startKeys file n ks)) (64 + A)
+          Known (choose (compromisedIn file n) (know (startKeys file n ks) (64 + n)) (startKeys file n ks)) (64 + A)
       go (inl h) ih = one-key (compromisedIn file n) (startKeys file n ks) n (64 + A) (keys-room n ks r) (ih h)
       go (inr e) ih =
           let c : compromisedIn file n ≡ true = subst (bad file) e b in
@@ -70,7 +70,7 @@ module _ (file : List ℕ) where
   keys-out (suc n) ks r i k = go (bool-cases (compromisedIn file n)) (ℕ-discrete i (64 + n)) (λ (h : Known (startKeys file n ks) i). keys-out n ks r i h)
     where
       go : (compromisedIn file n ≡ true) ⊎ (compromisedIn file n ≡ false) → Dec (i ≡ 64 + n) →
-        (Known (startKeys file n ks) i → Known ks i ⊎ FromBad i) → Known ks i ⊎ FromBad i
+          (Known (startKeys file n ks) i → Known ks i ⊎ FromBad i) → Known ks i ⊎ FromBad i
       go (inl c) (yes q) ih = inr (n, c, q)
       go (inl c) (no m) ih = ih (sym (know-other (startKeys file n ks) (keys-room n ks r) (64 + n) i m) ∙ rw c at k)
       go (inr c) d ih = ih (rw c at k)
@@ -91,28 +91,28 @@ module _ (file : List ℕ) where
     one-row false rs n x r m = m
 
     rows-in : (n : ℕ) (rs : List ℕ) → length rs ≡ 1024 → (x : ℕ) → x < n → x < 1024 → keyKnown ks (rowAt file x) ≡ true →
-      Marked (startRows file ks n rs) x
+        Marked (startRows file ks n rs) x
     unfolding startRows
     rows-in zero rs r x l f k = absurd (omega arith)
     rows-in (suc n) rs r x l f k = go (lt-suc x n l) (λ (h : x < n). rows-in n rs r x h f k)
       where
         go : (x < n) ⊎ (x ≡ n) → (x < n → Marked (startRows file ks n rs) x) →
-          Marked (choose (keyKnown ks (rowAt file n)) (markRow (startRows file ks n rs) n) (startRows file ks n rs)) x
+            Marked (choose (keyKnown ks (rowAt file n)) (markRow (startRows file ks n rs) n) (startRows file ks n rs)) x
         go (inl h) ih = one-row (keyKnown ks (rowAt file n)) (startRows file ks n rs) n x (rows-room n rs r) (ih h)
         go (inr e) ih =
             let c : keyKnown ks (rowAt file n) ≡ true = subst (λ (y : ℕ). keyKnown ks (rowAt file y) ≡ true) e k in
             rw (e, c) (mark-same (startRows file ks n rs) (rows-room n rs r) n (omega arith))
 
     rows-out : (n : ℕ) (rs : List ℕ) → length rs ≡ 1024 → (x : ℕ) → Marked (startRows file ks n rs) x →
-      Marked rs x ⊎ (keyKnown ks (rowAt file x) ≡ true)
+        Marked rs x ⊎ (keyKnown ks (rowAt file x) ≡ true)
     unfolding startRows
     rows-out zero rs r x m = inl m
     rows-out (suc n) rs r x m =
         go (bool-cases (keyKnown ks (rowAt file n))) (ℕ-discrete x n) (λ (h : Marked (startRows file ks n rs) x). rows-out n rs r x h)
       where
         go : (keyKnown ks (rowAt file n) ≡ true) ⊎ (keyKnown ks (rowAt file n) ≡ false) → Dec (x ≡ n) →
-          (Marked (startRows file ks n rs) x → Marked rs x ⊎ (keyKnown ks (rowAt file x) ≡ true)) →
-          Marked rs x ⊎ (keyKnown ks (rowAt file x) ≡ true)
+            (Marked (startRows file ks n rs) x → Marked rs x ⊎ (keyKnown ks (rowAt file x) ≡ true)) →
+            Marked rs x ⊎ (keyKnown ks (rowAt file x) ≡ true)
         go (inl c) (yes q) ih = inr (rw q c)
         go (inl c) (no d) ih = ih (sym (mark-other (startRows file ks n rs) (rows-room n rs r) n x d) ∙ rw c at m)
         go (inr c) d ih = ih (rw c at m)
@@ -175,7 +175,7 @@ module _ (file : List ℕ) (P : Promised file) where
   row-sound (asPrivate q) (of-bad b) = inj (start (own (rw q at b)))
 
   row-closed : (x : ℕ) {R : Row} → OfBad R →
-    (sidesOf file rs ks x R .left < x → Marked rs (sidesOf file rs ks x R .left)) ×
+      (sidesOf file rs ks x R .left < x → Marked rs (sidesOf file rs ks x R .left)) ×
       (sidesOf file rs ks x R .right < x → Marked rs (sidesOf file rs ks x R .right))
   row-closed x (of-bad b) = (λ l. absurd (omega arith), λ l. absurd (omega arith))
 
@@ -202,16 +202,16 @@ module _ (file : List ℕ) (P : Promised file) where
         room = rows-room file ks (rowsOf file) (zeros 1024) (zeros-room 1024);
         room-keys = keys-room file 64 (zeros 128) (zeros-room 128);
         sound = record {
-            rows = λ x l m. row-sound (P .unfolds x l) (marked-row x l m);
-            pubs = λ a l k. absurd (none-public a l (only-bad a k));
-            pris = λ a l k. private-sound a (only-bad (64 + a) k)
-          };
+          rows = λ x l m. row-sound (P .unfolds x l) (marked-row x l m);
+          pubs = λ a l k. absurd (none-public a l (only-bad a k));
+          pris = λ a l k. private-sound a (only-bad (64 + a) k);
+        };
         closed = λ x l m. row-closed x (marked-row x l m);
         held = λ x l m. row-held (marked-row x l m);
         keys = bad-known;
         rows = λ x A l b q.
             rows-in file ks (rowsOf file) (zeros 1024) (zeros-room 1024) x l (omega (arith, P .few-rows)) (row-known b (rw q at (P .unfolds x l)));
-        seen = λ X h. inl (only-starts h)
+        seen = λ X h. inl (only-starts h);
       }
 
 -- after the first n events

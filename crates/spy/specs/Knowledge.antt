@@ -40,9 +40,9 @@ pub data Knows (file : List ℕ) (n : ℕ) (before : List ℕ) : Answer → List
   refused : {c : Cause} → Told file (reading.the-variants.Refused c) → Knows file n before (Refused c) before
   short : Told file reading.the-variants.Readable → length before < rowsOf file → Knows file n before (Refused ShortBuffer) before
   many : Told file reading.the-variants.Readable → rowsOf file ≤ length before → eventsOf file < n →
-    Knows file n before (Refused TooManyEvents) before
+      Knows file n before (Refused TooManyEvents) before
   written : {after : List ℕ} → Told file reading.the-variants.Readable → rowsOf file ≤ length before → n ≤ eventsOf file →
-    Marks file n before after → Knows file n before Written after
+      Marks file n before after → Knows file n before Written after
 
 -- document 01's number of an answer; 0 for none
 abbrev pub answerNumber : Answer → ℕ
@@ -61,6 +61,7 @@ answerReadable file n buffer =
 
 abbrev pub bytesReadable : List ℕ → ℕ → List ℕ → List ℕ
 bytesReadable file n buffer =
-    elim (ltb (length buffer) (rowsOf file))
-    [ true ↦ buffer
-    | false ↦ elim (ltb (eventsOf file) n) [ true ↦ buffer | false ↦ marksAfter file n buffer ] ]
+    elim (ltb (length buffer) (rowsOf file)) [
+      | true ↦ buffer
+      | false ↦ elim (ltb (eventsOf file) n) [ true ↦ buffer | false ↦ marksAfter file n buffer ]
+    ]

@@ -18,6 +18,10 @@ const ROWS: u16 = 1024;
 
 const KEYS: usize = 128;
 
+const PUBLIC: usize = 0;
+
+const PRIVATE: usize = 64;
+
 pub fn row_marked(rows: &[u8; 1024], r: u16) -> bool
     ensures { λ b. ⌜ b ≡ rowMarked (now (rows .entry)) r ⌝ }
 {
@@ -40,8 +44,8 @@ fn opens_with(file: &[u8], rows: &[u8; 1024], keys: &[u8; 128], k: RowNo) -> boo
 {
     let row = trace::row_at(file, k);
     match row {
-        Row::PublicKey(a) => key_marked(keys, 64 + (a.0 as usize)),
-        Row::PrivateKey(a) => key_marked(keys, a.0 as usize),
+        Row::PublicKey(a) => key_marked(keys, PRIVATE + (a.0 as usize)),
+        Row::PrivateKey(a) => key_marked(keys, PUBLIC + (a.0 as usize)),
         Row::SessionKey(_, _, _, _) => row_marked(rows, k.0),
         Row::Agent(_) => false,
         Row::Number(_) => false,
@@ -62,10 +66,10 @@ fn know_key(keys: &mut [u8; 128], at: usize)
 }
 
 // What a row opens into with the keys that are known: a side that is not below the row is none.
-pub struct Sides {
-    pub left: u16,
-    pub right: u16,
-    pub key: bool,
+struct Sides {
+    left: u16,
+    right: u16,
+    key: bool,
 }
 
 fn sides_of(file: &[u8], rows: &[u8; 1024], keys: &[u8; 128], row: u16) -> Sides
@@ -117,8 +121,8 @@ fn know_row(file: &[u8], keys: &mut [u8; 128], row: u16)
 {
     let kind = trace::row_at(file, RowNo(row));
     match kind {
-        Row::PublicKey(a) => know_key(keys, a.0 as usize),
-        Row::PrivateKey(a) => know_key(keys, 64 + (a.0 as usize)),
+        Row::PublicKey(a) => know_key(keys, PUBLIC + (a.0 as usize)),
+        Row::PrivateKey(a) => know_key(keys, PRIVATE + (a.0 as usize)),
         Row::SessionKey(_, _, _, _) => {}
         Row::Agent(_) => {}
         Row::Number(_) => {}
@@ -132,7 +136,7 @@ fn know_row(file: &[u8], keys: &mut [u8; 128], row: u16)
 
 // Learns a row, and all that opens below it with the keys that are known by then. Tells whether a
 // key became known. A row that is marked was opened before, so shared rows are walked once.
-pub fn learn(file: &[u8], rows: &mut [u8; 1024], keys: &mut [u8; 128], row: u16) -> bool
+fn learn(file: &[u8], rows: &mut [u8; 1024], keys: &mut [u8; 128], row: u16) -> bool
     ensures { λ f. ⌜ stateOf (now (rows .exit)) (now (keys .exit)) f ≡
         learnRow (now (file .entry)) (suc row) (now (rows .entry)) (now (keys .entry)) row ⌝ }
 {
@@ -194,7 +198,7 @@ fn pass(file: &[u8], rows: &mut [u8; 1024], keys: &mut [u8; 128], n: u16) -> boo
 }
 
 // A row is seen. A pass that finds a key marks its row, so there are at most as many passes as rows.
-pub fn see(file: &[u8], rows: &mut [u8; 1024], keys: &mut [u8; 128], row: u16)
+fn see(file: &[u8], rows: &mut [u8; 1024], keys: &mut [u8; 128], row: u16)
     ensures { λ _. ⌜ now (rows .exit) ≡ seeRow (now (file .entry)) (now (rows .entry)) (now (keys .entry)) row .rows ⌝ }
     ensures { λ _. ⌜ now (keys .exit) ≡ seeRow (now (file .entry)) (now (rows .entry)) (now (keys .entry)) row .keys ⌝ }
 {
@@ -235,7 +239,7 @@ fn start_key(file: &[u8], keys: &mut [u8; 128], agent: u16)
 {
     let bad = trace::compromised(file, AgentNo(agent));
     if bad {
-        know_key(keys, 64 + (agent as usize));
+        know_key(keys, PRIVATE + (agent as usize));
     }
 }
 
@@ -255,8 +259,8 @@ fn key_known(file: &[u8], keys: &[u8; 128], r: u16) -> bool
 {
     let kind = trace::row_at(file, RowNo(r));
     match kind {
-        Row::PublicKey(a) => key_marked(keys, a.0 as usize),
-        Row::PrivateKey(a) => key_marked(keys, 64 + (a.0 as usize)),
+        Row::PublicKey(a) => key_marked(keys, PUBLIC + (a.0 as usize)),
+        Row::PrivateKey(a) => key_marked(keys, PRIVATE + (a.0 as usize)),
         Row::SessionKey(_, _, _, _) => false,
         Row::Agent(_) => false,
         Row::Number(_) => false,

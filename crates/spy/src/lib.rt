@@ -1,6 +1,6 @@
 // The spy: what it knows and can make, after any number of events.
-mod closure;
-mod made;
+pub mod closure;
+pub mod made;
 
 use trace::Cause;
 use trace::EventNo;

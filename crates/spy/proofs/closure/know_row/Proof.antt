@@ -1,4 +1,6 @@
-use mathlib.Core.Path.{refl}
+use mathlib.Core.Path.{refl, _∙_}
+use Rattle.spy.proofs.Marks.{public-known}
+use denote.Ref.{now}
 use borrow.Author.Needs.{needs}
 use Rattle.spy.proofs.closure.know_row.Statement.{statement}
 use Rattle.spy.proofs.closure.know_row.Tie as tie
@@ -8,7 +10,7 @@ use Rattle.spy.proofs.closure.know_key.Reads as know-key-reads
 use Rattle.trace.proofs.row_at.Reads as row-at-reads
 
 returns : tie.Need-returns
-returns c = rw (← c .before .before .before .before .before .before .row-at .ensures, c .before .before .before .before .kind .given .1) (c .know-key .ensures)
+returns c = rw (← c .before .before .before .before .before .before .row-at .ensures, c .before .before .before .before .kind .given .1) (c .know-key .ensures ∙ public-known (now (c .before .before .before .before .before .before .before .before .args .keys)) (c .before .before .before .before .kind .given .0 .0 .0))
 
 returns-2 : tie.Need-returns-2
 returns-2 c = rw (← c .before .before .before .before .before .before .row-at .ensures, c .before .before .before .before .kind2 .given .1) (c .know-key2 .ensures)
@@ -42,6 +44,7 @@ know-row-spec =
     tie.close
     (tie.spec
     (λ c κs. search needs)
+    (λ c. search needs)
     (λ c. search needs)
     (λ c. search needs)
     (λ c κs. search needs)

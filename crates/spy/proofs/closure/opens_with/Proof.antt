@@ -1,4 +1,6 @@
-use mathlib.Core.Path.{refl}
+use mathlib.Core.Path.{refl, _∙_}
+use Rattle.spy.proofs.Marks.{public-marked}
+use denote.Ref.{now}
 use borrow.Author.Needs.{needs}
 use Rattle.spy.proofs.closure.opens_with.Statement.{statement}
 use Rattle.spy.proofs.closure.opens_with.Tie as tie
@@ -12,7 +14,7 @@ returns : tie.Need-returns
 returns c = rw (← c .before .before .before .before .before .row-at .ensures, c .before .before .before .row .given .1) (c .key-marked .ensures)
 
 returns-2 : tie.Need-returns-2
-returns-2 c = rw (← c .before .before .before .before .before .row-at .ensures, c .before .before .before .row2 .given .1) (c .key-marked2 .ensures)
+returns-2 c = rw (← c .before .before .before .before .before .row-at .ensures, c .before .before .before .row2 .given .1) (c .key-marked2 .ensures ∙ public-marked (now (c .before .before .before .before .before .before .before .args .keys)) (c .before .before .before .row2 .given .0 .0 .0))
 
 returns-3 : tie.Need-returns-3
 returns-3 c = rw (← c .before .before .before .row-at .ensures, c .before .enum-told .given .1) (c .row-marked .ensures)
@@ -47,6 +49,7 @@ opens-with-spec =
     (λ c. search needs)
     (λ c. search needs)
     (λ c κs. search needs)
+    (λ c. search needs)
     (λ c. search needs)
     (λ c. search needs)
     (λ c κs. search needs)

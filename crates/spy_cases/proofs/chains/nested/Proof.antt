@@ -1,0 +1,77 @@
+-- `spy_cases::chains::nested` is safe: each row is from 4 to 1,023, and the file keeps its length.
+-- Assumes nothing.
+use Prim.Native.Nat.{_≤_, _-_}
+use mathlib.Core.Path.{_≡_}
+use lib.ListN.{length}
+use borrow.Author.Needs.{needs}
+use Rattle.spy_cases.proofs.chains.nested.Statement.{statement}
+use Rattle.spy_cases.proofs.chains.nested.Tie as tie
+
+abbrev Inv-loop : tie.InvT-loop
+Inv-loop file₀ bottom events r₀ file r = (4 ≤ r) × (r ≤ 1024) × (length file ≡ length file₀)
+
+abbrev μ-loop : tie.MeasureT-loop
+μ-loop file₀ bottom events r₀ file r = 1024 - r
+
+put-header-requires : tie.Need-put-header-requires Inv-loop μ-loop
+put-header-requires c κs = search needs
+
+put-row-requires : tie.Need-put-row-requires Inv-loop μ-loop
+put-row-requires c κs = search needs
+
+put-row-requires-2 : tie.Need-put-row-requires-2 Inv-loop μ-loop
+put-row-requires-2 c κs = search needs
+
+put-row-requires-3 : tie.Need-put-row-requires-3 Inv-loop μ-loop
+put-row-requires-3 c κs = search needs
+
+put-row-requires-4 : tie.Need-put-row-requires-4 Inv-loop μ-loop
+put-row-requires-4 c κs = search needs
+
+loop-holds : tie.Need-loop-holds Inv-loop μ-loop
+loop-holds c = search needs
+
+nested-key-requires : tie.Need-nested-key-requires Inv-loop μ-loop
+nested-key-requires c κs = search needs
+
+sub-put-row : tie.Need-sub-put-row Inv-loop μ-loop
+sub-put-row c = search needs
+
+put-row-requires-5 : tie.Need-put-row-requires-5 Inv-loop μ-loop
+put-row-requires-5 c κs = search needs
+
+add-r : tie.Need-add-r Inv-loop μ-loop
+add-r c = search needs
+
+loop-less : tie.Need-loop-less Inv-loop μ-loop
+loop-less c = search needs
+
+loop-again : tie.Need-loop-again Inv-loop μ-loop
+loop-again c = search needs
+
+same-length : tie.Need-same-length Inv-loop μ-loop
+same-length c = search needs
+
+returns : tie.Need-returns Inv-loop μ-loop
+returns c = search needs
+
+pub nested-spec : {M : Type 1} → statement M
+nested-spec =
+    tie.close
+    (tie.spec
+    Inv-loop
+    μ-loop
+    put-header-requires
+    put-row-requires
+    put-row-requires-2
+    put-row-requires-3
+    put-row-requires-4
+    loop-holds
+    nested-key-requires
+    sub-put-row
+    put-row-requires-5
+    add-r
+    loop-less
+    loop-again
+    same-length
+    returns)
