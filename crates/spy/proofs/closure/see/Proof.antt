@@ -50,7 +50,7 @@ loop-again : tie.Need-loop-again Inv-loop μ-loop
 loop-again c =
     let l = c .before .before .before .before .before .loop in (
       omega arith,
-      see-more (now (c .before .before .before .before .before .before .before .before .before .before .before .args .file)) (l .passes) (l .rows) (l .keys) _ _ _ (c .before .before .before .before .loop-test .taken) (c .before .before .before .before .before .before .before .before .before .row-count .ensures)
+      see-more (now (c .before .before .before .before .before .before .before .before .before .before .before .args .file)) (l .passes) (l .rows) (l .keys) _ _ _ (omega arith) (c .before .before .before .before .before .before .before .before .before .row-count .ensures)
           (not-false _ (c .before .before .before .if1 .left)) (l .inv .1) (c .pass .ensures),
     )
 
