@@ -1,6 +1,6 @@
 -- The marked cases hold: each is computed from the definitions, and what is computed satisfies the relation.
 -- Assumes nothing.
-use mathlib.Core.Path.{_≡_, refl, subst}
+use mathlib.Core.Path.{_≡_, refl}
 use lib.ListN.{replicate}
 use Rattle.trace.specs.File.{word}
 use Rattle.trace.specs.First.{first, any}
@@ -9,8 +9,8 @@ use Rattle.trace.specs.Refusal.{reading, readItems}
 use Rattle.trace.specs.declared.Reading.the-variants.{Readable}
 use Rattle.spy.specs.Closure.{learnRow, passRows, settle, startKeys, startRows, knownAfter}
 use Rattle.spy.specs.Made.{writeMarks}
-use Rattle.spy.specs.Knowledge.{Knows, answerReadable, bytesReadable}
-use Rattle.spy.specs.Cases.{sample, withSet, Case, Holds, none, also, MarkedCases}
+use Rattle.spy.specs.Knowledge.{answerReadable, bytesReadable}
+use Rattle.spy.specs.Cases.{sample, Case, Holds, none, also, MarkedCases}
 use Rattle.spy.specs.declared.Answer.the-variants.{Written}
 use Rattle.spy.proofs.Knows.{knows-readable}
 

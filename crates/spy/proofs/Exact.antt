@@ -1,22 +1,21 @@
 -- What is marked after the first n events is what the spy can analyse: nothing else by `Sound`, and all of it because the state is
 -- closed under each of analysis' rules. Equal messages have equal rows, so a message that has a row is found at it.
 -- Assumes nothing.
-use Prim.Native.Nat.{ℕ, zero, suc, _+_, _<_, _≤_}
-use mathlib.Core.Bool.{Bool, true, false, true≢false}
-use mathlib.Core.List.{List, [], _∷_}
+use Prim.Native.Nat.{ℕ, _+_, _<_}
+use mathlib.Core.Bool.{true, false, true≢false}
+use mathlib.Core.List.{List, _∷_}
 use mathlib.Core.Logic.{_⊎_, inl, inr}
-use mathlib.Core.Path.{_≡_, refl, sym, _∙_, ap, subst}
+use mathlib.Core.Path.{_≡_, refl, sym, _∙_, subst}
 use native.Mathlib.Omega.{arith}
 use lib.ListN.{length}
 use Rattle.paper.specs.Message as paper
 use Rattle.paper.specs.Event as event
-use Rattle.paper.specs.Event.{trace, In, here, there}
+use Rattle.paper.specs.Event.{trace, here, there}
 use Rattle.paper.specs.Spy.{Starts, own, Spies, start, said, noted, Analz, inj, fst, snd, decrypt}
 use Rattle.paper.proofs.Closures.{analz-mono}
-use Rattle.trace.specs.File.{rowsOf, eventsOf, compromisedIn}
-use Rattle.trace.specs.Rows.{choose, rowAt}
-use Rattle.trace.specs.Events.{eventAt}
-use Rattle.trace.specs.Meaning.{message, eventMeant, beginning, bad}
+use Rattle.trace.specs.File.{rowsOf, compromisedIn}
+use Rattle.trace.specs.Rows.{rowAt}
+use Rattle.trace.specs.Meaning.{message, eventMeant, bad}
 use Rattle.trace.specs.Promises.{Promised, Keeps, crypt, pair, Unfolds, asPublic, asPrivate, asSession, asCrypt, asPair, Exists, says, notes}
 use Rattle.trace.specs.declared.AgentNo.{AgentNo}
 use Rattle.trace.specs.declared.RowNo.{RowNo}
@@ -24,7 +23,7 @@ use Rattle.trace.specs.declared.Row.{Row}
 use Rattle.trace.specs.declared.Event.{Event}
 use Rattle.trace.specs.declared.Event.the-variants.{Says, Notes}
 use Rattle.trace.proofs.First.{bool-cases}
-use Rattle.spy.specs.Closure.{State, stateOf, opensRow, opens, sidesOf, seeRow, seeEvent, knownAfter}
+use Rattle.spy.specs.Closure.{opensRow, opens, sidesOf, seeRow, seeEvent}
 use Rattle.spy.proofs.Marks.{Marked, Known}
 use Rattle.spy.proofs.Grew.{Held}
 use Rattle.spy.proofs.Passes.{AllClosed, see-settles}

@@ -5,12 +5,12 @@ use Prim.Native.Nat.{ℕ, zero, suc, _+_, _<_, _≤_}
 use mathlib.Core.Bool.{Bool, true, false, _||_, true≢false}
 use mathlib.Core.List.{List}
 use mathlib.Core.Logic.{_⊎_, inl, inr, ⊎-elim}
-use mathlib.Core.Path.{_≡_, refl, sym, _∙_, ap}
+use mathlib.Core.Path.{_≡_, refl, sym, _∙_}
 use native.Mathlib.Omega.{arith}
 use native.Mathlib.Decide.{ℕ-discrete}
-use lib.Dec.{ltb, leb}
+use lib.Dec.{ltb}
 use lib.ListN.{length, set, length-set}
-use borrow.Author.Tests.{ltb-true, ltb-false, lt-ltb, le-ltb, lt-leb}
+use borrow.Author.Tests.{ltb-true, lt-ltb, lt-leb}
 use Rattle.trace.specs.File.{rowsOf}
 use Rattle.trace.specs.Rows.{rowAt}
 use Rattle.trace.specs.Promises.{Promised, Keeps, agent, number, nonce, prf, publicKey, privateKey, sessionKey, hash, crypt, pair}
@@ -18,9 +18,9 @@ use Rattle.trace.specs.declared.Row.{Row}
 use Rattle.trace.specs.declared.Row.the-variants.{Agent, Number, Nonce, Prf, PublicKey, PrivateKey, SessionKey, Hash, Crypt, Pair}
 use Rattle.trace.proofs.First.{bool-cases}
 use Rattle.trace.proofs.Refusal.{or-false, or-false-right}
-use Rattle.spy.specs.Closure.{State, stateOf, rowMarked, keyMarked, knowRow, opensRow, opens, sidesOf, below, bothSides, learnWith, learnRow}
+use Rattle.spy.specs.Closure.{State, stateOf, rowMarked, knowRow, opensRow, opens, sidesOf, below, bothSides, learnWith, learnRow}
 use Rattle.spy.specs.declared.closure.Sides.{Sides}
-use Rattle.spy.proofs.Marks.{Marked, Known, marked-below, row-same, row-other, row-keep, know-same, knowRow-keep, knowRow-room}
+use Rattle.spy.proofs.Marks.{Marked, Known, row-same, row-other, row-keep, know-same, knowRow-keep, knowRow-room}
 
 -- the key of a key row is known
 abbrev pub Held : List ℕ → Row → Type 0

@@ -13,7 +13,7 @@ use Rattle.paper.specs.Spy.{known}
 use Rattle.trace.specs.File.{rowsOf, eventsOf}
 use Rattle.trace.specs.Refusal as table
 use Rattle.trace.specs.Refusal.{reading, Told}
-use Rattle.trace.specs.Meaning.{message, beginning}
+use Rattle.trace.specs.Meaning.{beginning}
 use Rattle.trace.specs.Promises.{Promised}
 use Rattle.trace.specs.declared.Cause.{Cause}
 use Rattle.trace.specs.declared.Cause.the-variants.{TooShort}

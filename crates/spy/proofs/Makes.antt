@@ -1,7 +1,7 @@
 -- The sweep's marks are the paper's: where the marked rows are the analysed ones, each byte is 2, 1 or 0 as it should be.
 -- Assumes nothing.
 use Prim.Native.Nat.{ℕ, zero, suc, _<_, _≤_}
-use mathlib.Core.Bool.{Bool, true, false, _&&_, true≢false}
+use mathlib.Core.Bool.{true, false, true≢false}
 use mathlib.Core.List.{List}
 use mathlib.Core.Logic.{_⊎_, inl, inr}
 use mathlib.Core.Path.{_≡_, refl, sym, _∙_}
@@ -13,7 +13,7 @@ use Rattle.paper.specs.Message as paper
 use Rattle.paper.specs.Spy as spy
 use Rattle.paper.specs.Spy.{Analz, Synth, known, guessAgent, guessNumber}
 use Rattle.trace.specs.File.{rowsOf}
-use Rattle.trace.specs.Rows.{choose, rowAt}
+use Rattle.trace.specs.Rows.{rowAt}
 use Rattle.trace.specs.Meaning.{message}
 use Rattle.trace.specs.Promises.{Promised, Keeps, hash, crypt, pair, Unfolds, asAgent, asNumber, asNonce, asPrf, asPublic, asPrivate, asSession, asHash, asCrypt, asPair}
 use Rattle.trace.specs.declared.Row.{Row}

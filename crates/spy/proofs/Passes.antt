@@ -1,10 +1,10 @@
 -- Passes: one in which no key became known closes every row, and there are few others, since each of them marks a row.
 -- Assumes nothing.
 use Prim.Native.Nat.{ℕ, zero, suc, _+_, _<_, _≤_}
-use mathlib.Core.Bool.{Bool, true, false, _||_, true≢false}
+use mathlib.Core.Bool.{Bool, true, false, true≢false}
 use mathlib.Core.List.{List}
 use mathlib.Core.Logic.{_⊎_, inl, inr, ⊎-elim}
-use mathlib.Core.Path.{_≡_, refl, sym, _∙_, ap}
+use mathlib.Core.Path.{_≡_, sym, _∙_}
 use native.Mathlib.Omega.{arith}
 use lib.ListN.{length}
 use Rattle.trace.specs.File.{rowsOf}
@@ -13,9 +13,8 @@ use Rattle.trace.specs.Promises.{Promised}
 use Rattle.trace.proofs.Both.{refuted}
 use Rattle.trace.proofs.First.{bool-cases, lt-suc}
 use Rattle.trace.proofs.Refusal.{or-false, or-false-right}
-use Rattle.spy.specs.Closure.{State, stateOf, rowMarked, opens, bothSides, learnRow, reopenRow, passRows, settle, seeRow}
+use Rattle.spy.specs.Closure.{State, rowMarked, bothSides, learnRow, reopenRow, passRows, settle, seeRow}
 use Rattle.spy.proofs.Marks.{Marked, Known}
-use Rattle.spy.proofs.Folds.{settled}
 use Rattle.spy.proofs.Grew.{Held, Grew, grew-still, grew-then, sides-at, Closed, closed-same, learns, both-grew}
 
 -- rows that are not marked

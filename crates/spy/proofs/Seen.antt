@@ -2,24 +2,24 @@
 -- events show that are left once the notes of uncompromised agents are struck out.
 -- Assumes nothing.
 use Prim.Native.Nat.{ℕ, zero, suc, _<_, _≤_}
-use mathlib.Core.Bool.{Bool, true, false, not, true≢false}
-use mathlib.Core.List.{List, [], _∷_, _++_}
+use mathlib.Core.Bool.{true, false}
+use mathlib.Core.List.{List, _∷_}
 use mathlib.Core.Logic.{_⊎_, inl, inr}
-use mathlib.Core.Path.{_≡_, refl, sym, _∙_, ap, subst}
+use mathlib.Core.Path.{_≡_, refl, sym, _∙_, subst}
 use native.Mathlib.Omega.{arith}
 use lib.ListN.{getD}
 use Rattle.paper.specs.Message.{msg}
 use Rattle.paper.specs.Event as event
-use Rattle.paper.specs.Event.{trace, In, here, there, Beginning, whole, earlier}
+use Rattle.paper.specs.Event.{trace, here, Beginning, whole, earlier}
 use Rattle.paper.specs.Spy.{Starts, own, Spies, start, said, noted, Synth}
 use Rattle.paper.specs.Closures.{Within}
 use Rattle.paper.proofs.Event.{Spies-beginning}
 use Rattle.paper.proofs.Closures.{analz-mono, synth-mono}
 use Rattle.trace.specs.File.{rowsOf, eventsOf, compromisedIn}
-use Rattle.trace.specs.Rows.{choose, rowAt}
+use Rattle.trace.specs.Rows.{choose}
 use Rattle.trace.specs.Events.{eventAt}
 use Rattle.trace.specs.Refusal.{reading, Told}
-use Rattle.trace.specs.Meaning.{meant, among, messages, message, eventMeant, beginning, bad}
+use Rattle.trace.specs.Meaning.{messages, message, eventMeant, beginning, bad}
 use Rattle.trace.specs.Promises.{Promised, Exists, says, notes}
 use Rattle.trace.specs.declared.AgentNo.{AgentNo}
 use Rattle.trace.specs.declared.RowNo.{RowNo}

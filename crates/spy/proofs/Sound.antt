@@ -1,10 +1,10 @@
 -- What is marked is analysed: a row's sides are what analysis opens it into, by keys that are analysed.
 -- Assumes nothing.
 use Prim.Native.Nat.{ℕ, zero, suc, _+_, _<_, _≤_}
-use mathlib.Core.Bool.{Bool, true, false, _||_, true≢false}
+use mathlib.Core.Bool.{Bool, true, false, true≢false}
 use mathlib.Core.List.{List}
 use mathlib.Core.Logic.{_⊎_, inl, inr}
-use mathlib.Core.Path.{_≡_, refl, sym, _∙_, ap, subst}
+use mathlib.Core.Path.{_≡_, refl, sym, _∙_}
 use native.Mathlib.Omega.{arith}
 use native.Mathlib.Decide.{ℕ-discrete}
 use lib.Dec.{ltb, eqb}
@@ -13,14 +13,14 @@ use borrow.Author.Tests.{ltb-true, lt-leb}
 use Rattle.paper.specs.Message as paper
 use Rattle.paper.specs.Spy.{Analz, fst, snd, decrypt}
 use Rattle.trace.specs.File.{rowsOf}
-use Rattle.trace.specs.Rows.{choose, rowAt}
+use Rattle.trace.specs.Rows.{rowAt}
 use Rattle.trace.specs.Meaning.{message}
-use Rattle.trace.specs.Promises.{Promised, Keeps, Unfolds, asAgent, asNumber, asNonce, asPrf, asPublic, asPrivate, asSession, asHash, asCrypt, asPair, publicKey, privateKey, crypt, KeyBelow}
+use Rattle.trace.specs.Promises.{Promised, Keeps, Unfolds, asAgent, asNumber, asNonce, asPrf, asPublic, asPrivate, asSession, asHash, asCrypt, asPair, publicKey, privateKey, crypt}
 use Rattle.trace.specs.declared.Row.{Row}
-use Rattle.trace.specs.declared.Row.the-variants.{Agent, Number, Nonce, Prf, PublicKey, PrivateKey, SessionKey, Hash, Crypt, Pair}
+use Rattle.trace.specs.declared.Row.the-variants.{Crypt}
 use Rattle.trace.proofs.First.{bool-cases}
 use Rattle.trace.proofs.Both.{both}
-use Rattle.spy.specs.Closure.{State, stateOf, rowMarked, keyMarked, know, knowRow, opensRow, opens, sidesOf, below, bothSides, learnWith, learnRow, reopenRow, passRows, settle, seeRow}
+use Rattle.spy.specs.Closure.{State, stateOf, rowMarked, know, knowRow, opensRow, opens, sidesOf, below, bothSides, learnWith, learnRow, reopenRow, passRows, settle, seeRow}
 use Rattle.spy.specs.declared.closure.Sides.{Sides}
 use Rattle.spy.proofs.Marks.{Marked, Known, row-other, know-other}
 use Rattle.spy.proofs.Grew.{sides-at, learns, below-grew, both-grew}

@@ -1,13 +1,13 @@
 -- The starting knowledge: the private keys of compromised agents, with a row or without, and nothing else.
 -- Assumes nothing.
 use Prim.Native.Nat.{ℕ, zero, suc, _+_, _<_, _≤_}
-use mathlib.Core.Bool.{Bool, true, false, _&&_, true≢false}
+use mathlib.Core.Bool.{Bool, true, false, true≢false}
 use mathlib.Core.List.{List, []}
 use mathlib.Core.Logic.{_⊎_, inl, inr}
-use mathlib.Core.Path.{_≡_, refl, sym, _∙_, ap, subst}
+use mathlib.Core.Path.{_≡_, sym, _∙_, subst}
 use native.Mathlib.Omega.{arith}
 use native.Mathlib.Decide.{ℕ-discrete}
-use lib.Dec.{ltb, eqb}
+use lib.Dec.{ltb}
 use lib.ListN.{length, length-replicate}
 use borrow.Author.Tests.{ltb-true}
 use Rattle.paper.specs.Message as paper
@@ -22,10 +22,9 @@ use Rattle.trace.specs.declared.Row.{Row}
 use Rattle.trace.specs.declared.Row.the-variants.{PrivateKey}
 use Rattle.trace.proofs.First.{bool-cases, lt-suc}
 use Rattle.trace.proofs.Both.{both}
-use Rattle.spy.specs.Closure.{keyMarked, know, sidesOf, startKeys, keyKnown, markRow, startRows, zeros, knownAfter}
+use Rattle.spy.specs.Closure.{know, sidesOf, startKeys, keyKnown, markRow, startRows, zeros, knownAfter}
 use Rattle.spy.proofs.Marks.{Marked, Known, none-marked, mark-same, mark-other, mark-keep, mark-room, know-same, know-other, know-keep, know-room}
 use Rattle.spy.proofs.Grew.{Held}
-use Rattle.spy.proofs.Sound.{Sound}
 use Rattle.spy.proofs.Exact.{Good, good-event}
 
 zeros-room : (m : ℕ) → length (zeros m) ≡ m

@@ -1,7 +1,6 @@
 -- The marked cases of document 01, "The sample, and cases beside it": one list, and one claim over it.
-use Prim.Native.Nat.{ℕ, _+_}
-use mathlib.Core.List.{List, [], _∷_, _++_}
-use mathlib.Core.Path.{_≡_}
+use Prim.Native.Nat.{ℕ}
+use mathlib.Core.List.{List, [], _∷_}
 use lib.ListN.{set, replicate}
 use Rattle.spy.specs.Knowledge.{Knows}
 use Rattle.spy.specs.declared.Answer.the-variants.{Written}

@@ -5,11 +5,6 @@ use Rattle.spy.specs.Knowledge.{bytesReadable}
 use borrow.Author.Needs.{needs}
 use Rattle.spy.proofs.answer_readable.Statement.{statement}
 use Rattle.spy.proofs.answer_readable.Tie as tie
-use Rattle.spy.proofs.answer_readable.Reads as reads
-use Rattle.spy.proofs.answer_readable.Lts as lts
-use Rattle.spy.proofs.write.Reads as write-reads
-use Rattle.trace.proofs.event_count.Reads as event-count-reads
-use Rattle.trace.proofs.row_count.Reads as row-count-reads
 
 returns : tie.Need-returns
 returns c =

@@ -8,10 +8,6 @@ use Rattle.spy.specs.Closure.{knownAfter}
 use Rattle.spy.proofs.Folds.{known-start, known-more}
 use Rattle.spy.proofs.know.Statement.{statement}
 use Rattle.spy.proofs.know.Tie as tie
-use Rattle.spy.proofs.know.Reads as reads
-use Rattle.spy.proofs.know.Lts as lts
-use Rattle.spy.proofs.closure.see_event.Reads as see-event-reads
-use Rattle.spy.proofs.closure.start.Reads as start-reads
 
 abbrev Inv-loop : tie.InvT-loop
 Inv-loop file rows₀ keys₀ n e₀ rows keys e =

@@ -5,10 +5,6 @@ use borrow.Author.Needs.{needs}
 use Rattle.spy.proofs.Knows.{knows-refused, knows-readable}
 use Rattle.spy.proofs.knowledge.Statement.{statement}
 use Rattle.spy.proofs.knowledge.Tie as tie
-use Rattle.spy.proofs.knowledge.Reads as reads
-use Rattle.spy.proofs.knowledge.Lts as lts
-use Rattle.spy.proofs.answer_readable.Reads as answer-readable-reads
-use Rattle.trace.proofs.read.Reads as read-reads
 
 returns : tie.Need-returns
 returns c = knows-refused _ _ _ (sym (c .before .before .before .read .ensures) ∙ c .before .reading .given .1)

@@ -3,11 +3,6 @@
 use borrow.Author.Needs.{needs}
 use Rattle.spy.proofs.write.Statement.{statement}
 use Rattle.spy.proofs.write.Tie as tie
-use Rattle.spy.proofs.write.Reads as reads
-use Rattle.spy.proofs.write.Lts as lts
-use Rattle.spy.proofs.know.Reads as know-reads
-use Rattle.spy.proofs.made.write_marks.Reads as write-marks-reads
-use Rattle.trace.proofs.row_count.Reads as row-count-reads
 
 returns : tie.Need-returns
 returns c = rw (← c .before .before .before .before .before .before .know .ensures .0, ← c .before .before .before .row-count .ensures) (c .before .before .write-marks .ensures)

@@ -1,13 +1,11 @@
+-- `spy::closure::key_known` meets its contract: in each arm the kind is known.
+-- Assumes nothing.
 use mathlib.Core.Path.{refl, _∙_}
 use Rattle.spy.proofs.Marks.{public-marked}
 use denote.Ref.{now}
 use borrow.Author.Needs.{needs}
 use Rattle.spy.proofs.closure.key_known.Statement.{statement}
 use Rattle.spy.proofs.closure.key_known.Tie as tie
-use Rattle.spy.proofs.closure.key_known.Reads as reads
-use Rattle.spy.proofs.closure.key_known.Lts as lts
-use Rattle.spy.proofs.closure.key_marked.Reads as key-marked-reads
-use Rattle.trace.proofs.row_at.Reads as row-at-reads
 
 returns : tie.Need-returns
 returns c = rw (← c .before .before .before .before .before .row-at .ensures, c .before .before .before .kind .given .1) (c .key-marked .ensures ∙ public-marked (now (c .before .before .before .before .before .before .before .args .keys)) (c .before .before .before .kind .given .0 .0 .0))

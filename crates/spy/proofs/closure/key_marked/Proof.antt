@@ -1,9 +1,9 @@
+-- `spy::closure::key_marked` meets its contract: a place past the keys is no mark.
+-- Assumes nothing.
 use borrow.Author.Tests.{lt-ltb, le-ltb}
 use borrow.Author.Needs.{needs}
 use Rattle.spy.proofs.closure.key_marked.Statement.{statement}
 use Rattle.spy.proofs.closure.key_marked.Tie as tie
-use Rattle.spy.proofs.closure.key_marked.Reads as reads
-use Rattle.spy.proofs.closure.key_marked.Lts as lts
 
 returns : tie.Need-returns
 returns c = simp (lt-ltb _ _ (c .before .if1 .taken))

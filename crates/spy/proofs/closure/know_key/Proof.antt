@@ -1,9 +1,9 @@
+-- `spy::closure::know_key` meets its contract: a place past the keys changes nothing.
+-- Assumes nothing.
 use borrow.Author.Tests.{lt-ltb, le-ltb}
 use borrow.Author.Needs.{needs}
 use Rattle.spy.proofs.closure.know_key.Statement.{statement}
 use Rattle.spy.proofs.closure.know_key.Tie as tie
-use Rattle.spy.proofs.closure.know_key.Reads as reads
-use Rattle.spy.proofs.closure.know_key.Lts as lts
 
 returns : tie.Need-returns
 returns c = simp (lt-ltb _ _ (c .if1 .taken))

@@ -1,13 +1,11 @@
+-- `spy::closure::know_row` meets its contract: in each arm the kind is known.
+-- Assumes nothing.
 use mathlib.Core.Path.{refl, _∙_}
 use Rattle.spy.proofs.Marks.{public-known}
 use denote.Ref.{now}
 use borrow.Author.Needs.{needs}
 use Rattle.spy.proofs.closure.know_row.Statement.{statement}
 use Rattle.spy.proofs.closure.know_row.Tie as tie
-use Rattle.spy.proofs.closure.know_row.Reads as reads
-use Rattle.spy.proofs.closure.know_row.Lts as lts
-use Rattle.spy.proofs.closure.know_key.Reads as know-key-reads
-use Rattle.trace.proofs.row_at.Reads as row-at-reads
 
 returns : tie.Need-returns
 returns c = rw (← c .before .before .before .before .before .before .row-at .ensures, c .before .before .before .before .kind .given .1) (c .know-key .ensures ∙ public-known (now (c .before .before .before .before .before .before .before .before .args .keys)) (c .before .before .before .before .kind .given .0 .0 .0))

@@ -1,14 +1,11 @@
+-- `spy::closure::opens_with` meets its contract: in each arm the kind is known.
+-- Assumes nothing.
 use mathlib.Core.Path.{refl, _∙_}
 use Rattle.spy.proofs.Marks.{public-marked}
 use denote.Ref.{now}
 use borrow.Author.Needs.{needs}
 use Rattle.spy.proofs.closure.opens_with.Statement.{statement}
 use Rattle.spy.proofs.closure.opens_with.Tie as tie
-use Rattle.spy.proofs.closure.opens_with.Reads as reads
-use Rattle.spy.proofs.closure.opens_with.Lts as lts
-use Rattle.spy.proofs.closure.key_marked.Reads as key-marked-reads
-use Rattle.spy.proofs.closure.row_marked.Reads as row-marked-reads
-use Rattle.trace.proofs.row_at.Reads as row-at-reads
 
 returns : tie.Need-returns
 returns c = rw (← c .before .before .before .before .before .row-at .ensures, c .before .before .before .row .given .1) (c .key-marked .ensures)

@@ -7,9 +7,6 @@ use Rattle.spy.specs.Closure.{stateOf, passRows}
 use Rattle.spy.proofs.Folds.{pass-none, pass-more}
 use Rattle.spy.proofs.closure.pass.Statement.{statement}
 use Rattle.spy.proofs.closure.pass.Tie as tie
-use Rattle.spy.proofs.closure.pass.Reads as reads
-use Rattle.spy.proofs.closure.pass.Lts as lts
-use Rattle.spy.proofs.closure.reopen.Reads as reopen-reads
 
 abbrev Inv-loop : tie.InvT-loop
 Inv-loop file rows₀ keys₀ n fresh₀ r₀ rows keys fresh r = (r ≤ n) × (stateOf rows keys fresh ≡ passRows file r rows₀ keys₀)

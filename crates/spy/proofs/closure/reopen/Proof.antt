@@ -7,11 +7,6 @@ use Rattle.spy.proofs.Depth.{reopen-open}
 use borrow.Author.Needs.{needs}
 use Rattle.spy.proofs.closure.reopen.Statement.{statement}
 use Rattle.spy.proofs.closure.reopen.Tie as tie
-use Rattle.spy.proofs.closure.reopen.Reads as reads
-use Rattle.spy.proofs.closure.reopen.Lts as lts
-use Rattle.spy.proofs.closure.learn_below.Reads as learn-below-reads
-use Rattle.spy.proofs.closure.row_marked.Reads as row-marked-reads
-use Rattle.spy.proofs.closure.sides_of.Reads as sides-of-reads
 
 returns : tie.Need-returns
 returns c =

@@ -1,9 +1,9 @@
+-- `spy::closure::row_marked` meets its contract: a row past the room is no mark.
+-- Assumes nothing.
 use borrow.Author.Tests.{lt-ltb, le-ltb}
 use borrow.Author.Needs.{needs}
 use Rattle.spy.proofs.closure.row_marked.Statement.{statement}
 use Rattle.spy.proofs.closure.row_marked.Tie as tie
-use Rattle.spy.proofs.closure.row_marked.Reads as reads
-use Rattle.spy.proofs.closure.row_marked.Lts as lts
 
 returns : tie.Need-returns
 returns c = simp (lt-ltb _ _ (c .before .if1 .taken))

@@ -9,11 +9,6 @@ use Rattle.spy.specs.Closure.{State, stateOf, settle}
 use Rattle.spy.proofs.Folds.{see-end, see-last, see-more}
 use Rattle.spy.proofs.closure.see.Statement.{statement}
 use Rattle.spy.proofs.closure.see.Tie as tie
-use Rattle.spy.proofs.closure.see.Reads as reads
-use Rattle.spy.proofs.closure.see.Lts as lts
-use Rattle.spy.proofs.closure.learn.Reads as learn-reads
-use Rattle.spy.proofs.closure.pass.Reads as pass-reads
-use Rattle.trace.proofs.row_count.Reads as row-count-reads
 
 abbrev Inv-loop : tie.InvT-loop
 Inv-loop file rows₀ keys₀ row n fresh₀ passes₀ rows keys fresh passes =

@@ -5,11 +5,6 @@ use Rattle.spy.specs.Closure.{seeEvent}
 use borrow.Author.Needs.{needs}
 use Rattle.spy.proofs.closure.see_event.Statement.{statement}
 use Rattle.spy.proofs.closure.see_event.Tie as tie
-use Rattle.spy.proofs.closure.see_event.Reads as reads
-use Rattle.spy.proofs.closure.see_event.Lts as lts
-use Rattle.spy.proofs.closure.see.Reads as see-reads
-use Rattle.trace.proofs.compromised.Reads as compromised-reads
-use Rattle.trace.proofs.event_at.Reads as event-at-reads
 
 returns : tie.Need-returns
 returns c = rw (← c .before .before .before .before .before .before .event-at .ensures, c .before .before .before .before .event .given .1) (c .see .ensures)

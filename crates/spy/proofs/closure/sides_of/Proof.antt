@@ -1,12 +1,9 @@
+-- `spy::closure::sides_of` meets its contract: in each arm the kind is known, and for a Crypt the test says whether it opens.
+-- Assumes nothing.
 use mathlib.Core.Path.{refl, sym, _∙_}
 use borrow.Author.Needs.{needs}
 use Rattle.spy.proofs.closure.sides_of.Statement.{statement}
 use Rattle.spy.proofs.closure.sides_of.Tie as tie
-use Rattle.spy.proofs.closure.sides_of.Reads as reads
-use Rattle.spy.proofs.closure.sides_of.Lts as lts
-use Rattle.spy.proofs.closure.no_sides.Reads as no-sides-reads
-use Rattle.spy.proofs.closure.opens_with.Reads as opens-with-reads
-use Rattle.trace.proofs.row_at.Reads as row-at-reads
 
 returns : tie.Need-returns
 returns c = rw (← c .before .before .before .row-at .ensures, c .before .kind .given .1) refl

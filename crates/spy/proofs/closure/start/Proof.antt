@@ -3,11 +3,6 @@
 use borrow.Author.Needs.{needs}
 use Rattle.spy.proofs.closure.start.Statement.{statement}
 use Rattle.spy.proofs.closure.start.Tie as tie
-use Rattle.spy.proofs.closure.start.Reads as reads
-use Rattle.spy.proofs.closure.start.Lts as lts
-use Rattle.spy.proofs.closure.start_keys.Reads as start-keys-reads
-use Rattle.spy.proofs.closure.start_rows.Reads as start-rows-reads
-use Rattle.trace.proofs.row_count.Reads as row-count-reads
 
 returns : tie.Need-returns
 returns c = (c .before .before .before .before .start-keys .ensures, rw (← c .before .before .before .before .start-keys .ensures, ← c .before .row-count .ensures) (c .start-rows .ensures))

@@ -4,10 +4,6 @@ use mathlib.Core.Path.{sym, _∙_}
 use borrow.Author.Needs.{needs}
 use Rattle.spy.proofs.closure.start_key.Statement.{statement}
 use Rattle.spy.proofs.closure.start_key.Tie as tie
-use Rattle.spy.proofs.closure.start_key.Reads as reads
-use Rattle.spy.proofs.closure.start_key.Lts as lts
-use Rattle.spy.proofs.closure.know_key.Reads as know-key-reads
-use Rattle.trace.proofs.compromised.Reads as compromised-reads
 
 returns : tie.Need-returns
 returns c = rw (sym (c .before .before .before .compromised .ensures) ∙ c .before .before .if1 .taken) (c .know-key .ensures)

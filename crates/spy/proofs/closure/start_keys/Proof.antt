@@ -7,9 +7,6 @@ use Rattle.spy.specs.Closure.{startKeys}
 use Rattle.spy.proofs.Folds.{keys-none, keys-more}
 use Rattle.spy.proofs.closure.start_keys.Statement.{statement}
 use Rattle.spy.proofs.closure.start_keys.Tie as tie
-use Rattle.spy.proofs.closure.start_keys.Reads as reads
-use Rattle.spy.proofs.closure.start_keys.Lts as lts
-use Rattle.spy.proofs.closure.start_key.Reads as start-key-reads
 
 abbrev Inv-loop : tie.InvT-loop
 Inv-loop file keys₀ agent₀ keys agent = (agent ≤ 64) × (keys ≡ startKeys file agent keys₀)

@@ -5,9 +5,6 @@ use borrow.Author.Tests.{lt-ltb, le-ltb}
 use borrow.Author.Needs.{needs}
 use Rattle.spy.proofs.closure.start_row.Statement.{statement}
 use Rattle.spy.proofs.closure.start_row.Tie as tie
-use Rattle.spy.proofs.closure.start_row.Reads as reads
-use Rattle.spy.proofs.closure.start_row.Lts as lts
-use Rattle.spy.proofs.closure.key_known.Reads as key-known-reads
 
 returns : tie.Need-returns
 returns c = rw (sym (c .before .before .key-known .ensures) ∙ c .before .if1 .taken, lt-ltb _ _ (c .if2 .taken))

@@ -7,9 +7,6 @@ use Rattle.spy.specs.Closure.{startRows}
 use Rattle.spy.proofs.Folds.{rows-none, rows-more}
 use Rattle.spy.proofs.closure.start_rows.Statement.{statement}
 use Rattle.spy.proofs.closure.start_rows.Tie as tie
-use Rattle.spy.proofs.closure.start_rows.Reads as reads
-use Rattle.spy.proofs.closure.start_rows.Lts as lts
-use Rattle.spy.proofs.closure.start_row.Reads as start-row-reads
 
 abbrev Inv-loop : tie.InvT-loop
 Inv-loop file rows₀ keys n r₀ rows r = (r ≤ n) × (rows ≡ startRows file keys r rows₀)

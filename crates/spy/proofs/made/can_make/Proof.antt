@@ -4,11 +4,6 @@ use mathlib.Core.Path.{refl}
 use borrow.Author.Needs.{needs}
 use Rattle.spy.proofs.made.can_make.Statement.{statement}
 use Rattle.spy.proofs.made.can_make.Tie as tie
-use Rattle.spy.proofs.made.can_make.Reads as reads
-use Rattle.spy.proofs.made.can_make.Lts as lts
-use Rattle.spy.proofs.closure.row_marked.Reads as row-marked-reads
-use Rattle.spy.proofs.made.row_made.Reads as row-made-reads
-use Rattle.trace.proofs.row_at.Reads as row-at-reads
 
 returns : tie.Need-returns
 returns c = rw (← c .before .before .row-at .ensures, c .enum-told .given .1) refl

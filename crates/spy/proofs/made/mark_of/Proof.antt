@@ -4,10 +4,6 @@ use mathlib.Core.Path.{sym, _∙_}
 use borrow.Author.Needs.{needs}
 use Rattle.spy.proofs.made.mark_of.Statement.{statement}
 use Rattle.spy.proofs.made.mark_of.Tie as tie
-use Rattle.spy.proofs.made.mark_of.Reads as reads
-use Rattle.spy.proofs.made.mark_of.Lts as lts
-use Rattle.spy.proofs.closure.row_marked.Reads as row-marked-reads
-use Rattle.spy.proofs.made.can_make.Reads as can-make-reads
 
 returns : tie.Need-returns
 returns c = rw (sym (c .before .row-marked .ensures) ∙ c .if1 .taken)

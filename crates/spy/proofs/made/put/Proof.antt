@@ -6,8 +6,6 @@ use lib.Seq.{set-out}
 use borrow.Author.Needs.{needs}
 use Rattle.spy.proofs.made.put.Statement.{statement}
 use Rattle.spy.proofs.made.put.Tie as tie
-use Rattle.spy.proofs.made.put.Reads as reads
-use Rattle.spy.proofs.made.put.Lts as lts
 
 returns-2 : tie.Need-returns-2
 returns-2 c = sym (set-out (now (c .before .args .marks)) (c .before .args .at) (c .before .args .mark) (c .if1 .left))

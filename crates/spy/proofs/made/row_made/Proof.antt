@@ -5,8 +5,6 @@ use lib.ListN.{List·getD-eq-default}
 use borrow.Author.Needs.{needs}
 use Rattle.spy.proofs.made.row_made.Statement.{statement}
 use Rattle.spy.proofs.made.row_made.Tie as tie
-use Rattle.spy.proofs.made.row_made.Reads as reads
-use Rattle.spy.proofs.made.row_made.Lts as lts
 
 returns-2 : tie.Need-returns-2
 returns-2 c = simp (List·getD-eq-default (now (c .before .before .args .marks)) 0 (c .if1 .left))

@@ -9,10 +9,6 @@ use Rattle.spy.specs.Made.{writeMarks}
 use Rattle.spy.proofs.Folds.{marks-none, marks-more, marks-length}
 use Rattle.spy.proofs.made.write_marks.Statement.{statement}
 use Rattle.spy.proofs.made.write_marks.Tie as tie
-use Rattle.spy.proofs.made.write_marks.Reads as reads
-use Rattle.spy.proofs.made.write_marks.Lts as lts
-use Rattle.spy.proofs.made.mark_of.Reads as mark-of-reads
-use Rattle.spy.proofs.made.put.Reads as put-reads
 
 abbrev Inv-loop : tie.InvT-loop
 Inv-loop file rows marks₀ n r₀ marks r = (r ≤ n) × (marks ≡ writeMarks file rows r marks₀)
