@@ -18,11 +18,11 @@ use Rattle.trace.specs.Promises.{Promised}
 use Rattle.trace.specs.declared.Cause.{Cause}
 use Rattle.trace.specs.declared.Cause.the-variants.{TooShort}
 use Rattle.trace.specs.declared.Reading as declared
-use Rattle.trace.proofs.Told.{refusals}
+use Rattle.trace.proofs.Told.{refusals, number-below}
 use Rattle.trace.proofs.Promised.{promises}
 use Rattle.spy.specs.Closure.{knownAfter}
 use Rattle.spy.specs.Knowledge.{Mark, analysed, made, neither, Marks, Knows, refused, short, many, written, seenIn, marksAfter, answerReadable, bytesReadable}
-use Rattle.spy.specs.Promises.{OneAnswer}
+use Rattle.spy.specs.Promises.{OneAnswer, Refuses}
 use Rattle.spy.specs.declared.Answer.the-variants.{Refused}
 use Rattle.spy.proofs.Folds.{marks-length}
 use Rattle.spy.proofs.Exact.{marks-analysed}
@@ -93,6 +93,19 @@ module _ (file : List ℕ) where
 
   same-cause : {c d : Cause} → Told file (declared.the-variants.Refused c) → Told file (declared.the-variants.Refused d) → c ≡ d
   same-cause t u = ap cause-of (refusals .one file _ _ t u)
+
+-- causes 1 to 7 have numbers below 8
+told-number : (file : List ℕ) {c : Cause} → Told file (declared.the-variants.Refused c) → table.numberOf c < 8
+told-number file (table.refused w n) = number-below file w
+
+pub refuses : Refuses
+refuses file n before a after (refused t) =
+    let l = told-number file t in
+    record { unwritten = λ _. refl; eight = λ e. absurd (omega arith); nine = λ e. absurd (omega arith) }
+refuses file n before a after (short t s) = record { unwritten = λ _. refl; eight = λ _. (s, refl); nine = λ e. absurd (omega arith) }
+refuses file n before a after (many t r m) = record { unwritten = λ _. refl; eight = λ e. absurd (omega arith); nine = λ _. (r, m, refl) }
+refuses file n before a after (written t r l k) =
+    record { unwritten = λ e. absurd (omega arith); eight = λ e. absurd (omega arith); nine = λ e. absurd (omega arith) }
 
 pub one-answer : OneAnswer
 one-answer file n before a b after after′ (refused t) (refused u) = (ap Refused (same-cause file t u), refl)

@@ -9,7 +9,7 @@ use Rattle.paper.specs.Message.{msg}
 use Rattle.paper.specs.Spy.{Spies, Analz, Synth}
 use Rattle.trace.specs.File.{rowsOf, eventsOf}
 use Rattle.trace.specs.Rows.{choose}
-use Rattle.trace.specs.Refusal.{numberOf, Told}
+use Rattle.trace.specs.Refusal.{numberOf, placeOf, Told}
 use Rattle.trace.specs.Meaning.{message, beginning, bad}
 use Rattle.trace.specs.declared.Cause.{Cause}
 use Rattle.trace.specs.declared.Cause.the-variants.{ShortBuffer, TooManyEvents}
@@ -44,10 +44,14 @@ pub data Knows (file : List ℕ) (n : ℕ) (before : List ℕ) : Answer → List
   written : {after : List ℕ} → Told file reading.the-variants.Readable → rowsOf file ≤ length before → n ≤ eventsOf file →
       Marks file n before after → Knows file n before Written after
 
--- document 01's number of an answer; 0 for none
+-- document 01's number and place of an answer; 0 where nothing is refused
 abbrev pub answerNumber : Answer → ℕ
 answerNumber (Refused c) = numberOf c
 answerNumber Written = 0
+
+abbrev pub answerPlace : Answer → ℕ
+answerPlace (Refused c) = placeOf c
+answerPlace Written = 0
 
 -- a mark for each row after the first n events, at the start of the buffer, computed
 abbrev pub marksAfter : List ℕ → ℕ → List ℕ → List ℕ

@@ -3,13 +3,13 @@ use Prim.Native.Nat.{ℕ, zero, suc, _<_, _≤_}
 use mathlib.Core.Bool.{Bool, false, not}
 use mathlib.Core.List.{List, [], _∷_}
 use mathlib.Core.Path.{_≡_}
-use lib.ListN.{getD}
-use Rattle.trace.specs.File.{rowsOf, compromisedIn}
+use lib.ListN.{length, getD}
+use Rattle.trace.specs.File.{rowsOf, eventsOf, compromisedIn}
 use Rattle.trace.specs.Rows.{choose, rowAt}
 use Rattle.trace.specs.Events.{eventAt}
 use Rattle.trace.specs.declared.Event.{Event}
 use Rattle.trace.specs.declared.Event.the-variants.{Says, Notes}
-use Rattle.spy.specs.Knowledge.{Knows}
+use Rattle.spy.specs.Knowledge.{Knows, answerNumber, answerPlace}
 use Rattle.spy.specs.declared.Answer.{Answer}
 use Rattle.spy.specs.declared.Answer.the-variants.{Written}
 
@@ -18,6 +18,16 @@ abbrev pub OneAnswer : Type 0
 OneAnswer =
     (file : List ℕ) (n : ℕ) (before : List ℕ) (a b : Answer) (after after′ : List ℕ) →
     Knows file n before a after → Knows file n before b after′ → (a ≡ b) × (after ≡ after′)
+
+-- a refused call changes no lent byte, and the number is 8 or 9 exactly when the table says so
+pub record Refusing (file : List ℕ) (n : ℕ) (before : List ℕ) (a : Answer) (after : List ℕ) : Type 0 where
+  pub unwritten : 0 < answerNumber a → after ≡ before
+  pub eight : answerNumber a ≡ 8 → (length before < rowsOf file) × (answerPlace a ≡ 0)
+  pub nine : answerNumber a ≡ 9 → (rowsOf file ≤ length before) × (eventsOf file < n) × (answerPlace a ≡ 0)
+
+abbrev pub Refuses : Type 0
+Refuses =
+    (file : List ℕ) (n : ℕ) (before : List ℕ) (a : Answer) (after : List ℕ) → Knows file n before a after → Refusing file n before a after
 
 -- knowledge only grows with the number of events
 abbrev pub OnlyGrows : Type 0

@@ -80,7 +80,7 @@ module _ (file : List ℕ) where
     none-below d l (repeated h) = clash (h .holds) (apart l _ (h .below))
     none-below d l (event h) = clash (h .holds) (events l _ (h .below))
 
-  number-below : {c : Cause} → Wrong file c → numberOf c < 8
+  pub number-below : {c : Cause} → Wrong file c → numberOf c < 8
   number-below (short h) = omega arith
   number-below (version e) = omega arith
   number-below (set e) = omega arith
