@@ -44,11 +44,11 @@ mark-grows w (made n s) (neither m) = absurd (m (synth-mono (λ X. analz-mono w)
 mark-grows w (neither n) k = omega arith
 
 -- what an answer says of its file
-told-file : {file : List ℕ} {n : ℕ} {before after : List ℕ} → Knows file n before Written after →
+pub told-file : {file : List ℕ} {n : ℕ} {before after : List ℕ} → Knows file n before Written after →
     Told file Readable × (n ≤ eventsOf file) × Marks file n before after
 told-file (written t r l m) = (t, l, m)
 
-begins : (file : List ℕ) (n m : ℕ) → n ≤ m → Beginning (beginning file n) (beginning file m)
+pub begins : (file : List ℕ) (n m : ℕ) → n ≤ m → Beginning (beginning file n) (beginning file m)
 unfolding beginning
 begins file n zero l = let e : n ≡ 0 = omega arith in rw e whole
 begins file n (suc m) l = go (lt-suc n (suc m) (omega arith)) (λ (h : n ≤ m). begins file n m h)
@@ -154,7 +154,7 @@ module _ (file other : List ℕ) (s : SameRows file other) where
       go (inl i) = start (starts-same i)
       go (inr i) = shown-seen other Q m (subst (Shown other X) e (shown-same i))
 
-promised-file : (file : List ℕ) → Told file Readable → Promised file
+pub promised-file : (file : List ℕ) → Told file Readable → Promised file
 promised-file file t = promises file (refusals .one file (reading file) Readable (refusals .told file) t)
 
 same-back : {file other : List ℕ} → SameRows file other → SameRows other file
