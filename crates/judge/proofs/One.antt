@@ -23,7 +23,7 @@ use Rattle.judge.specs.Promises.{OneVerdict}
 use Rattle.judge.specs.declared.Verdict.the-variants.{Refused, Illegal, Accepted}
 
 -- no rule of one event fits a note of rule 6
-not-both : {bad : agent → Type 0} {evs : trace} {d e : event} {k : ℕ} → Exchange bad evs d e → ¬ Step bad evs d k
+pub not-both : {bad : agent → Type 0} {evs : trace} {d e : event} {k : ℕ} → Exchange bad evs d e → ¬ Step bad evs d k
 not-both (ClientKeyExch fresh i) s = no-step s
 
 module _ (file : List ℕ) where

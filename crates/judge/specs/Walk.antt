@@ -1,0 +1,32 @@
+-- The walk over the events, as the code does it: the lowest rule that fits, else rule 6 on two events, else the end.
+use Prim.Native.Nat.{ℕ, zero, suc, _+_}
+use mathlib.Core.Bool.{Bool, true, false, _&&_}
+use mathlib.Core.List.{List}
+use lib.Dec.{ltb}
+use lib.ListN.{set}
+
+-- the events that were accepted, and the bytes
+pub record Walked : Type 0 where
+  pub length : ℕ
+  pub bytes : List ℕ
+
+abbrev pub walkedTo : ℕ → List ℕ → Walked
+walkedTo n bytes = record { length = n; bytes = bytes }
+
+-- `rule i` is the lowest that fits event i, 0 for none; `exchange i` whether rule 6 fits events i and i + 1. The first number bounds
+-- the steps: any that is not below the events serves
+unfoldable pub walk : (ℕ → ℕ) → (ℕ → Bool) → (events : ℕ) → ℕ → ℕ → List ℕ → Walked
+walk rule exchange events zero i bytes = walkedTo i bytes
+walk rule exchange events (suc d) i bytes =
+    elim (ltb i events) [
+      | true ↦
+          elim (ltb 0 (rule i)) [
+            | true ↦ walk rule exchange events d (suc i) (set bytes i (rule i))
+            | false ↦
+                elim (ltb (suc i) events && exchange i) [
+                  | true ↦ walk rule exchange events d (suc (suc i)) (set (set bytes i 6) (suc i) 6)
+                  | false ↦ walkedTo i bytes
+                ]
+          ]
+      | false ↦ walkedTo i bytes
+    ]
