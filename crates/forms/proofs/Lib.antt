@@ -1,0 +1,6 @@
+pub mod Flags
+pub mod Inverts
+pub mod Links
+pub mod Greetings
+pub mod Seals
+pub mod Shaped
