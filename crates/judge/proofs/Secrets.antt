@@ -49,7 +49,7 @@ in-beginning file e zero l = absurd (omega arith)
 in-beginning file e (suc n) l = go (lt-suc e n l) (λ (h : e < n). in-beginning file e n h)
   where
     go : (e < n) ⊎ (e ≡ n) → (e < n → In (eventMeant file (eventAt file e)) (beginning file n)) →
-      In (eventMeant file (eventAt file e)) (eventMeant file (eventAt file n) ∷ beginning file n)
+        In (eventMeant file (eventAt file e)) (eventMeant file (eventAt file n) ∷ beginning file n)
     go (inl h) ih = there (ih h)
     go (inr q) ih = rw q here
 
@@ -107,7 +107,7 @@ module _ (file : List ℕ) (P : Promised file) (s : ℕ) (N : Noted file s) wher
       rw (pair-means (N .group) (P .unfolds (N .row .0) row-in), agent-means (N .peer) (P .unfolds (N .agent .0) agent-in), secret-means)
 
   noted-in : (n : ℕ) → n ≡ eventsOf file →
-    In (event.Notes (N .A .0) (secretNote (N .B .0) (paper.plain (N .value .0)))) (beginning file n)
+      In (event.Notes (N .A .0) (secretNote (N .B .0) (paper.plain (N .value .0)))) (beginning file n)
   noted-in n e =
       let l : N .event < n = rw e (N .exists) in
       let q : eventMeant file (eventAt file (N .event)) ≡ event.Notes (N .A .0) (secretNote (N .B .0) (paper.plain (N .value .0))) =
@@ -119,18 +119,21 @@ module _ (file : List ℕ) (P : Promised file) (s : ℕ) (N : Noted file s) wher
 
   -- the message of such a row is not analysed
   unknown : (k n : ℕ) → AcceptedTo file k → k ≡ eventsOf file → n ≤ eventsOf file → (r : ℕ) → r < rowsOf file → MadeFrom file s r →
-    ¬ Analz (seenIn file n) (message file r)
+      ¬ Analz (seenIn file n) (message file r)
   unknown k n g e l r lr made a = go made
     where
       kept : (¬ Analz (Besides (λ _. ⊥) (seenIn file n)) (paper.Nonce (paper.plain (N .value .0)))) ×
-        ((x y : paper.nonce) → ¬ Analz (Besides (λ _. ⊥) (seenIn file n)) (paper.Nonce (paper.PRF (paper.plain (N .value .0)) x y)))
+          ((x y : paper.nonce) → ¬ Analz (Besides (λ _. ⊥) (seenIn file n)) (paper.Nonce (paper.PRF (paper.plain (N .value .0)) x y)))
       kept =
           secret (bad file) (P .authority-good) (beginning file k) g (N .A .0) (N .B .0) (N .value .0) (honest (N .A .0) (N .A-honest))
           (honest (N .B .0) (N .B-honest)) (noted-in k e) (beginning file n) (begins file n k (omega arith)) (λ _. ⊥)
+
       besides : {X : paper.msg} → message file r ≡ X → Analz (Besides (λ _. ⊥) (seenIn file n)) X
       besides q = rw q at (analz-mono {H = Besides (λ _. ⊥) (seenIn file n)} (λ X. before) a)
+
       master-unknown : (Na : paper.nonce) × (Nb : paper.nonce) × (message file r ≡ paper.Nonce (paper.PRF (paper.plain (N .value .0)) Na Nb)) → ⊥
       master-unknown (Na, Nb, q) = kept .1 Na Nb (besides q)
+
       go : MadeFrom file s r → ⊥
       go (itself q) = kept .0 (besides (ap (message file) (q ∙ sym (N .here)) ∙ secret-means))
       go (master p i) =

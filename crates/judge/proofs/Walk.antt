@@ -43,6 +43,7 @@ module _ (file : List ℕ) where
       go-low : (i < m) ⊎ (i ≡ m) → From (suc (suc m)) i
       go-low (inl h) = from-later (omega arith) (ih h)
       go-low (inr e) = inr (inl (omega arith, rw e x))
+
       go : (i < suc m) ⊎ (i ≡ suc m) → From (suc (suc m)) i
       go (inl h) = go-low (lt-suc i m h)
       go (inr e) = inr (inr (m, e, x))
@@ -104,15 +105,15 @@ module _ (file : List ℕ) where
     pub after : (j : ℕ) → w .length ≤ j → getD (w .bytes) j 0 ≡ getD bytes j 0
 
   module _ (rule : ℕ → ℕ) (exchanges : ℕ → Bool)
-    (fits : (i : ℕ) → i < eventsOf file → 0 < rule i → Fits file i (rule i) × ((j : ℕ) → Fits file i j → rule i ≤ j))
-    (none : (i : ℕ) → i < eventsOf file → rule i ≡ 0 → (k : ℕ) → ¬ Fits file i k)
-    (six : (i : ℕ) → suc i < eventsOf file → exchanges i ≡ true → Exchanged file i)
-    (not-six : (i : ℕ) → suc i < eventsOf file → exchanges i ≡ false → ¬ Exchanged file i) where
+      (fits : (i : ℕ) → i < eventsOf file → 0 < rule i → Fits file i (rule i) × ((j : ℕ) → Fits file i j → rule i ≤ j))
+      (none : (i : ℕ) → i < eventsOf file → rule i ≡ 0 → (k : ℕ) → ¬ Fits file i k)
+      (six : (i : ℕ) → suc i < eventsOf file → exchanges i ≡ true → Exchanged file i)
+      (not-six : (i : ℕ) → suc i < eventsOf file → exchanges i ≡ false → ¬ Exchanged file i) where
     abbrev N : ℕ
     N = eventsOf file
 
     ended-here : (i : ℕ) (bytes : List ℕ) → i ≤ N → AcceptedTo file i → ((m : ℕ) → i < m → m ≤ N → ¬ AcceptedTo file m) →
-      Ended i bytes (walkedTo i bytes)
+        Ended i bytes (walkedTo i bytes)
     ended-here i bytes l g longest =
         record {
           from = omega arith;
@@ -122,7 +123,7 @@ module _ (file : List ℕ) where
           size = refl;
           rules = λ j a b. absurd (omega arith);
           before = λ j a. refl;
-          after = λ j a. refl
+          after = λ j a. refl;
         }
 
     -- one event more, and two
@@ -136,7 +137,7 @@ module _ (file : List ℕ) where
           size = e .size ∙ length-set bytes i k;
           rules = λ j a b. go j (ℕ-discrete j i) a b;
           before = λ j a. e .before j (omega arith) ∙ getD-set-other bytes i j k 0 (omega arith);
-          after = λ j a. let f = e .from in e .after j a ∙ getD-set-other bytes i j k 0 (omega arith)
+          after = λ j a. let f = e .from in e .after j a ∙ getD-set-other bytes i j k 0 (omega arith);
         }
       where
         go : (j : ℕ) → Dec (j ≡ i) → i ≤ j → j < w .length → RuleAt file j (getD (w .bytes) j 0)
@@ -149,7 +150,7 @@ module _ (file : List ℕ) where
         Ended i bytes (walk rule exchanges N d i bytes)
 
     module _ (d : ℕ) (walks : Walks d) (i : ℕ) (bytes : List ℕ) (deep : N ≤ i + suc d) (at-most : i ≤ N) (room : N ≤ length bytes)
-      (g : AcceptedTo file i) (a : Apart i) where
+        (g : AcceptedTo file i) (a : Apart i) where
       ends-one : i < N → 0 < rule i → Ended i bytes (walk rule exchanges N d (suc i) (set bytes i (rule i)))
       ends-one l p =
           let f = fits i l p in
@@ -158,7 +159,7 @@ module _ (file : List ℕ) where
           (accept-one i (rule i) g (f .0)) (apart-step i (rule i) (f .0)))
 
       ends-two : suc i < N → exchanges i ≡ true →
-        Ended i bytes (walk rule exchanges N d (suc (suc i)) (set (set bytes i 6) (suc i) 6))
+          Ended i bytes (walk rule exchanges N d (suc (suc i)) (set (set bytes i 6) (suc i) 6))
       ends-two l t =
           let x = six i l t in
           let w = walk rule exchanges N d (suc (suc i)) (set (set bytes i 6) (suc i) 6) in
@@ -172,9 +173,9 @@ module _ (file : List ℕ) where
           ended-here i bytes (omega arith) g (λ m lm le. stuck i m a (none i l z) (λ h. x (omega arith)) lm)
 
       ends-six : i < N → rule i ≡ 0 → Dec (suc i < N) → (exchanges i ≡ true) ⊎ (exchanges i ≡ false) →
-        Ended i bytes
-        (elim (ltb (suc i) N && exchanges i)
-        [ true ↦ walk rule exchanges N d (suc (suc i)) (set (set bytes i 6) (suc i) 6) | false ↦ walkedTo i bytes ])
+          Ended i bytes
+          (elim (ltb (suc i) N && exchanges i)
+          [ true ↦ walk rule exchanges N d (suc (suc i)) (set (set bytes i 6) (suc i) 6) | false ↦ walkedTo i bytes ])
       ends-six l z (yes h) (inl t) = rw (lt-ltb (suc i) N h, t) (ends-two h t)
       ends-six l z (yes h) (inr t) = rw (lt-ltb (suc i) N h, t) (ends-stuck l z (λ _. not-six i h t))
       ends-six l z (no h) e = rw (le-ltb (suc i) N (omega arith)) (ends-stuck l z (λ m. absurd (h m)))

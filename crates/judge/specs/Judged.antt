@@ -53,9 +53,9 @@ pub data Judged (file before : List ℕ) : Verdict → List ℕ → Type 0 where
   refused : {c : Cause} → Told file (reading.the-variants.Refused c) → Judged file before (Refused c) before
   short : Told file reading.the-variants.Readable → length before < eventsOf file → Judged file before (Refused ShortBuffer) before
   illegal : {n : ℕ} {after : List ℕ} → Told file reading.the-variants.Readable → eventsOf file ≤ length before →
-    Longest file n → n < eventsOf file → RuleBytes file n before after → Judged file before (Illegal n) after
+      Longest file n → n < eventsOf file → RuleBytes file n before after → Judged file before (Illegal n) after
   accepted : {n : ℕ} {after : List ℕ} → Told file reading.the-variants.Readable → eventsOf file ≤ length before →
-    AcceptedTo file n → n ≡ eventsOf file → RuleBytes file n before after → Judged file before (Accepted n) after
+      AcceptedTo file n → n ≡ eventsOf file → RuleBytes file n before after → Judged file before (Accepted n) after
 
 -- document 01's number and place of a refusal, 0 for none; and the length of the longest accepted beginning
 abbrev pub verdictNumber : Verdict → ℕ

@@ -1,0 +1,12 @@
+-- `rules::earlier::is_reply` meets its contract: each call gives what the definition names.
+-- Assumes nothing.
+use mathlib.Core.Path.{refl}
+use borrow.Author.Needs.{needs}
+use Rattle.rules.proofs.earlier.is_reply.Statement.{statement}
+use Rattle.rules.proofs.earlier.is_reply.Tie as tie
+
+returns : tie.Need-returns
+returns c = rw (c .before .before .before .before .server-hello .ensures) refl
+
+pub is-reply-spec : {M : Type 1} → statement M
+is-reply-spec = tie.close (tie.spec (λ c κs. search needs) returns)

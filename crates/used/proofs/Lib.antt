@@ -1,0 +1,3 @@
+pub mod Deep
+pub mod Grown
+pub mod Exactly
