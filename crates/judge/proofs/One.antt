@@ -1,13 +1,13 @@
 -- The verdict's relation has one answer: a rule number is fixed by its event, a longest beginning by its length.
 -- Assumes nothing.
-use Prim.Native.Nat.{ℕ, suc, _<_, _≤_}
+use Prim.Native.Nat.{ℕ, _<_, _≤_}
 use mathlib.Core.List.{List}
 use mathlib.Core.Path.{_≡_, refl, sym, _∙_, ap}
 use native.Mathlib.Omega.{arith}
 use native.Mathlib.Decide.{decLt}
-use lib.ListN.{length, getD}
+use lib.ListN.{getD}
 use lib.Seq.{ext-getD}
-use Rattle.paper.specs.Event.{event, trace, Notes}
+use Rattle.paper.specs.Event.{event, trace}
 use Rattle.paper.specs.Message.{agent}
 use Rattle.paper.specs.Rules.{Step, Exchange, ClientKeyExch}
 use Rattle.paper.proofs.Steps.{no-step}
@@ -18,7 +18,7 @@ use Rattle.trace.specs.declared.Cause.{Cause}
 use Rattle.trace.specs.declared.Cause.the-variants.{TooShort}
 use Rattle.trace.specs.declared.Reading as declared
 use Rattle.trace.proofs.Told.{refusals}
-use Rattle.judge.specs.Judged.{AcceptedTo, Fits, Exchanged, RuleAt, lowest, note, message, RuleBytes, Longest, Judged, refused, short, illegal, accepted}
+use Rattle.judge.specs.Judged.{RuleAt, lowest, note, message, RuleBytes, Longest, refused, short, illegal, accepted}
 use Rattle.judge.specs.Promises.{OneVerdict}
 use Rattle.judge.specs.declared.Verdict.the-variants.{Refused, Illegal, Accepted}
 

@@ -1,41 +1,35 @@
 -- Demand 3 on files: a mark of 2 is analysed, and what a generated trace analyses demand 3 forbids.
 -- Assumes nothing.
 use Prim.Native.Nat.{ℕ, suc, zero, _<_, _≤_}
-use mathlib.Core.Bool.{true, false, true≢false}
+use mathlib.Core.Bool.{false, true≢false}
 use mathlib.Core.List.{List, _∷_}
 use mathlib.Core.Logic.{_⊎_, inl, inr}
-use mathlib.Core.Path.{_≡_, refl, sym, _∙_, ap, subst}
+use mathlib.Core.Path.{_≡_, sym, _∙_, ap}
 use native.Mathlib.Omega.{arith}
-use lib.ListN.{getD}
 use Rattle.paper.specs.Message as paper
 use Rattle.paper.specs.Event as event
-use Rattle.paper.specs.Event.{trace, In, here, there}
-use Rattle.paper.specs.Spy.{Spies, Analz}
+use Rattle.paper.specs.Event.{In, here, there}
+use Rattle.paper.specs.Spy.{Analz}
 use Rattle.paper.specs.Rules.{secretNote}
 use Rattle.paper.specs.Secret.{Besides, before}
 use Rattle.paper.proofs.Closures.{analz-mono}
 use Rattle.paper.proofs.Secret.{secret}
 use Rattle.trace.specs.File.{rowsOf, eventsOf, compromisedIn}
-use Rattle.trace.specs.Rows.{rowAt}
 use Rattle.trace.specs.Events.{eventAt}
-use Rattle.trace.specs.Refusal.{Told}
 use Rattle.trace.specs.Meaning.{message, eventMeant, beginning, bad}
-use Rattle.trace.specs.Promises.{Promised, Exists, notes, Keeps, pair, NonceBelow, prf, Unfolds, asAgent, asNonce, asPrf, asPair}
+use Rattle.trace.specs.Promises.{Promised, Exists, notes, Keeps, pair, Unfolds, asAgent, asNonce, asPrf, asPair}
 use Rattle.trace.specs.declared.AgentNo.{AgentNo}
 use Rattle.trace.specs.declared.RowNo.{RowNo}
 use Rattle.trace.specs.declared.NonceValue.{NonceValue}
 use Rattle.trace.specs.declared.Row.{Row}
 use Rattle.trace.specs.declared.Row.the-variants.{Agent, Nonce, Prf, Pair}
-use Rattle.trace.specs.declared.Event.{Event}
 use Rattle.trace.specs.declared.Event.the-variants.{Notes}
-use Rattle.trace.specs.declared.Reading.the-variants.{Readable}
 use Rattle.trace.proofs.First.{lt-suc}
 use Rattle.spy.specs.Knowledge as question
 use Rattle.spy.specs.Knowledge.{Mark, analysed, seenIn}
 use Rattle.spy.proofs.Seen.{begins, told-file, promised-file}
-use Rattle.judge.specs.Judged.{AcceptedTo, Judged, accepted}
+use Rattle.judge.specs.Judged.{AcceptedTo, accepted}
 use Rattle.judge.specs.Promises.{Noted, MadeFrom, itself, master, SecretOnFiles}
-use Rattle.judge.specs.declared.Verdict.the-variants.{Accepted}
 
 two-analysed : {H : paper.msg → Type 0} {X : paper.msg} {m : ℕ} → Mark H X m → m ≡ 2 → Analz H X
 two-analysed (analysed a) e = a

@@ -1,25 +1,24 @@
 -- The walk finds the longest accepted beginning and its rule numbers, where each test says whether its rule fits.
 -- Assumes nothing.
 use Prim.Native.Nat.{ℕ, zero, suc, _+_, _<_, _≤_}
-use mathlib.Core.Bool.{Bool, true, false, _&&_, true≢false}
-use mathlib.Core.List.{List, _∷_}
+use mathlib.Core.Bool.{Bool, true, false, _&&_}
+use mathlib.Core.List.{List}
 use mathlib.Core.Logic.{_⊎_, inl, inr}
-use mathlib.Core.Path.{_≡_, refl, sym, _∙_, ap}
+use mathlib.Core.Path.{_≡_, refl, _∙_}
 use native.Mathlib.Omega.{arith}
 use native.Mathlib.Decide.{decLt, ℕ-discrete}
 use lib.Dec.{ltb}
 use lib.ListN.{length, getD, set, length-set}
 use lib.Seq.{getD-set-same, getD-set-other}
-use borrow.Author.Tests.{lt-ltb, le-ltb, ltb-true, ltb-false}
+use borrow.Author.Tests.{lt-ltb, le-ltb}
 use Rattle.paper.specs.Message.{agent}
 use Rattle.paper.specs.Event.{event, trace}
 use Rattle.paper.specs.Rules.{Exchange, ClientKeyExch}
-use Rattle.paper.specs.Generated.{Generated, Nil, step, exchange}
+use Rattle.paper.specs.Generated.{Nil, step, exchange}
 use Rattle.trace.specs.File.{eventsOf}
 use Rattle.trace.specs.Meaning.{beginning, bad}
-use Rattle.trace.proofs.Both.{both}
 use Rattle.trace.proofs.First.{bool-cases, lt-suc}
-use Rattle.judge.specs.Judged.{AcceptedTo, eventIn, Fits, Exchanged, RuleAt, lowest, note, message}
+use Rattle.judge.specs.Judged.{AcceptedTo, Fits, Exchanged, RuleAt, lowest, note, message}
 use Rattle.judge.specs.Walk.{Walked, walkedTo, walk}
 use Rattle.judge.proofs.One.{not-both}
 

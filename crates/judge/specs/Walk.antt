@@ -1,5 +1,5 @@
 -- The walk over the events, as the code does it: the lowest rule that fits, else rule 6 on two events, else the end.
-use Prim.Native.Nat.{ℕ, zero, suc, _+_}
+use Prim.Native.Nat.{ℕ, zero, suc}
 use mathlib.Core.Bool.{Bool, true, false, _&&_}
 use mathlib.Core.List.{List}
 use lib.Dec.{ltb}

@@ -1,0 +1,3 @@
+pub mod Happened
+pub mod Premises
+pub mod Steps

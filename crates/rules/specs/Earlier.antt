@@ -7,8 +7,8 @@ use Rattle.trace.specs.First.{any}
 use Rattle.trace.specs.Events.{eventAt}
 use Rattle.trace.specs.declared.Event.{Event}
 use Rattle.trace.specs.declared.Event.the-variants.{Says, Notes}
-use Rattle.forms.specs.Kinds.{cryptOf, publicOf, isNonce}
-use Rattle.forms.specs.Forms.{helloOf, replyOf, keptOf, signedOf, rememberedOf, sealedOf}
+use Rattle.forms.specs.Kinds.{cryptOf, publicOf}
+use Rattle.forms.specs.Forms.{helloOf, replyOf, keptOf, signedOf, rememberedOf}
 use Rattle.rules.specs.declared.earlier.Heard.{Heard}
 use Rattle.rules.specs.declared.earlier.Wanted.{Wanted}
 use Rattle.rules.specs.declared.earlier.Wanted.the-variants.{HelloFor, HelloBy, HelloTo, ReplyWith, ReplyTo, ReplyBy, Cert, Secret, Sent, Session, Under}
