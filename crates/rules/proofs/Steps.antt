@@ -10,9 +10,10 @@ use lib.ListN.{getD}
 use borrow.Author.Tests.{eqb-true, eq-eqb}
 use Rattle.paper.specs.Message as paper
 use Rattle.paper.specs.Event as event
+use Rattle.paper.specs.Event.{In}
 use Rattle.paper.specs.Spy.{Spies, Analz, Synth}
 use Rattle.paper.specs.Used.{Used}
-use Rattle.paper.specs.Rules.{SH, Step, Fake, SpyKeys, ClientHello, ServerHello, Certificate, Oops}
+use Rattle.paper.specs.Rules.{CH, SH, cert, Step, Fake, SpyKeys, ClientHello, ServerHello, Certificate, Oops}
 use Rattle.trace.specs.File.{rowsOf, eventsOf}
 use Rattle.trace.specs.Events.{eventAt}
 use Rattle.trace.specs.Meaning.{message, eventMeant, beginning, bad}
@@ -28,7 +29,7 @@ use Rattle.rules.specs.declared.earlier.Wanted.the-variants.{HelloFor, U
 use Rattle.rules.specs.Earlier.{heardAt, notedBy, earlier}
 use Rattle.rules.specs.Tests.{fresh, fake, spyKeys, clientHello, serverHello, certificate, oops}
 use Rattle.rules.proofs.Happened.{says-meant, notes-meant, says-told, notes-told, row-exists, not-true}
-use Rattle.rules.proofs.Premises.{nonce-one, key-one, hello-same, cert-same, hello-for-sound, hello-for-complete, under-sound, under-complete}
+use Rattle.rules.proofs.Premises.{nonce-one, key-one, one-message, one-row, hello-same, cert-same, hello-for-sound, hello-for-complete, under-sound, under-complete}
 
 -- the marks of the rows are those of the trace of the first e events
 pub record Rights (file used known made : List ℕ) (e : ℕ) : Type 0 where
