@@ -5,8 +5,7 @@ use native.Mathlib.Omega.{arith}
 use mathlib.Core.Bool.{Bool, true, false, not, _&&_, true≢false}
 use mathlib.Core.List.{List}
 use mathlib.Core.Path.{_≡_, refl, sym, _∙_, ap}
-use lib.Dec.{eqb, ltb}
-use lib.ListN.{getD}
+use lib.Dec.{eqb}
 use borrow.Author.Tests.{eqb-true, eq-eqb}
 use Rattle.paper.specs.Message as paper
 use Rattle.paper.specs.Event as event
@@ -25,22 +24,22 @@ use Rattle.forms.specs.Kinds.{publicOf, sessionOf, isPlain}
 use Rattle.forms.specs.Forms.{helloOf, replyOf, signedOf, derivedOf}
 use Rattle.forms.specs.Shapes.{Row-holds}
 use Rattle.forms.proofs.Shaped.{shapes}
-use Rattle.rules.specs.declared.earlier.Wanted.the-variants.{HelloFor, Under}
-use Rattle.rules.specs.Earlier.{heardAt, notedBy, earlier}
-use Rattle.rules.specs.Tests.{fresh, fake, spyKeys, clientHello, serverHello, certificate, oops}
-use Rattle.rules.proofs.Happened.{says-meant, notes-meant, says-told, notes-told, row-exists, not-true}
-use Rattle.rules.proofs.Premises.{nonce-one, key-one, one-message, one-row, hello-same, cert-same, hello-for-sound, hello-for-complete, under-sound, under-complete}
+use Rattle.earlier.specs.declared.Wanted.the-variants.{HelloFor, Under}
+use Rattle.earlier.specs.Earlier.{heardAt, notedBy, earlier}
+use Rattle.rules.specs.Tests.{fresh, canMake, fake, spyKeys, clientHello, serverHello, certificate, oops}
+use Rattle.earlier.proofs.Meant.{says-meant, notes-meant, says-told, notes-told, row-exists, not-true}
+use Rattle.earlier.proofs.Premises.{nonce-one, key-one, one-message, one-row, hello-same, cert-same, hello-for-sound, hello-for-complete, under-sound, under-complete}
 
 -- the marks of the rows are those of the trace of the first e events
-pub record Rights (file used known made : List ℕ) (e : ℕ) : Type 0 where
+pub record Rights (file used known : List ℕ) (e : ℕ) : Type 0 where
   pub used-right : (x : ℕ) → x < rowsOf file →
       (Marked used x → Used (message file x) (beginning file e)) × (Used (message file x) (beginning file e) → Marked used x)
   pub known-right : (x : ℕ) → x < rowsOf file →
       (Marked known x → Analz (Spies (bad file) (beginning file e)) (message file x)) ×
       (Analz (Spies (bad file) (beginning file e)) (message file x) → Marked known x)
   pub made-right : (x : ℕ) → x < rowsOf file →
-      (ltb 0 (getD made x 0) ≡ true → Synth (Analz (Spies (bad file) (beginning file e))) (message file x)) ×
-      (Synth (Analz (Spies (bad file) (beginning file e))) (message file x) → ltb 0 (getD made x 0) ≡ true)
+      (canMake file known x ≡ true → Synth (Analz (Spies (bad file) (beginning file e))) (message file x)) ×
+      (Synth (Analz (Spies (bad file) (beginning file e))) (message file x) → canMake file known x ≡ true)
 
 pub event-same : {b : paper.agent → Type 0} {evs : event.trace} {E E′ : event.event} {k : ℕ} → E ≡ E′ → Step b evs E′ k → Step b evs E k
 event-same q s = rw q s
@@ -65,8 +64,8 @@ module _ (file : List ℕ) (P : Promised file) (e : ℕ) (le : e < eventsOf file
   not-flipped true h = absurd (true≢false h)
   not-flipped false h = refl
 
-  module _ (used known made : List ℕ) (R : Rights file used known made e) where
-    pub fresh-sound : (x : ℕ) → x < rowsOf file → fresh file used known made e x ≡ true →
+  module _ (used known : List ℕ) (R : Rights file used known e) where
+    pub fresh-sound : (x : ℕ) → x < rowsOf file → fresh file used x ≡ true →
         (n : ℕ) × (message file x ≡ paper.Nonce (paper.plain n)) × (¬ Used (paper.Nonce (paper.plain n)) (beginning file e))
     fresh-sound x l t =
         let b = both (isPlain file x) (not (rowMarked used x)) t in
@@ -75,32 +74,32 @@ module _ (file : List ℕ) (P : Promised file) (e : ℕ) (le : e < eventsOf file
         (p .0, p .1, λ u. true≢false (sym (R .used-right x l .1 (rw (p .1) u)) ∙ f))
 
     pub fresh-complete : (x n : ℕ) → Row-holds file x (paper.Nonce (paper.plain n)) → ¬ Used (paper.Nonce (paper.plain n)) (beginning file e) →
-        fresh file used known made e x ≡ true
+        fresh file used x ≡ true
     fresh-complete x n h u =
         let p = shapes file P .plain-complete x (h .row) (h .meant) in
         let f = refuted (rowMarked used x) (λ m. u (rw (h .meant) at (R .used-right x (h .row) .0 m))) in
         rw (p, f) refl
 
-    pub fake-sound : fake file used known made e (heardAt file e) ≡ true → Step (bad file) (beginning file e) (eventMeant file (eventAt file e)) 1
+    pub fake-sound : fake file known (heardAt file e) ≡ true → Step (bad file) (beginning file e) (eventMeant file (eventAt file e)) 1
     unfolding fake
     fake-sound t =
         let h = heardAt file e in
-        let b = both3 (h .says) (eqb (h .from) 0) (ltb 0 (getD made (h .row) 0)) t in
+        let b = both3 (h .says) (eqb (h .from) 0) (canMake file known (h .row)) t in
         event-same (says-meant file (eventAt file e) (b .0) ∙ says-same (eqb-true (h .from) 0 (b .1)) refl refl)
         (Fake (R .made-right (h .row) here-row .0 (b .2)))
 
-    pub fake-complete : Step (bad file) (beginning file e) (eventMeant file (eventAt file e)) 1 → fake file used known made e (heardAt file e) ≡ true
+    pub fake-complete : Step (bad file) (beginning file e) (eventMeant file (eventAt file e)) 1 → fake file known (heardAt file e) ≡ true
     unfolding fake
     fake-complete s = go refl s
       where
         go : {E : event.event} → eventMeant file (eventAt file e) ≡ E → Step (bad file) (beginning file e) E 1 →
-            fake file used known made e (heardAt file e) ≡ true
+            fake file known (heardAt file e) ≡ true
         go q (Fake s) =
             let h = heardAt file e in
             let t = says-told file (eventAt file e) q in
             rw (t .0, eq-eqb (h .from) 0 (t .1), R .made-right (h .row) here-row .1 (rw (t .3) s)) refl
 
-    pub certificate-sound : certificate file used known made e (heardAt file e) ≡ true →
+    pub certificate-sound : certificate file (heardAt file e) ≡ true →
         Step (bad file) (beginning file e) (eventMeant file (eventAt file e)) 5
     unfolding certificate
     certificate-sound t =
@@ -118,12 +117,12 @@ module _ (file : List ℕ) (P : Promised file) (e : ℕ) (le : e < eventsOf file
         Certificate
 
     pub certificate-complete : Step (bad file) (beginning file e) (eventMeant file (eventAt file e)) 5 →
-        certificate file used known made e (heardAt file e) ≡ true
+        certificate file (heardAt file e) ≡ true
     unfolding certificate
     certificate-complete s = go refl s
       where
         go : {E : event.event} → eventMeant file (eventAt file e) ≡ E → Step (bad file) (beginning file e) E 5 →
-            certificate file used known made e (heardAt file e) ≡ true
+            certificate file (heardAt file e) ≡ true
         go q Certificate =
             let h = heardAt file e in
             let m = signedOf file (h .row) in
@@ -133,14 +132,14 @@ module _ (file : List ℕ) (P : Promised file) (e : ℕ) (le : e < eventsOf file
             let p = shapes file P .public-complete (m .key) (g .key .row) (g .key .meant) in
             rw (t .0, g .flag, eq-eqb (m .agent) (h .from) (g .agent ∙ sym (t .1)), p .flag, eq-eqb (k .first) (h .from) (p .agent ∙ sym (t .1))) refl
 
-    pub client-hello-sound : clientHello file used known made e (heardAt file e) ≡ true →
+    pub client-hello-sound : clientHello file used (heardAt file e) ≡ true →
         Step (bad file) (beginning file e) (eventMeant file (eventAt file e)) 3
     unfolding clientHello
     client-hello-sound t =
         let h = heardAt file e in
         let m = helloOf file (h .row) in
-        let b = both (h .says) (m .is && eqb (m .agent) (h .from) && fresh file used known made e (m .na)) t in
-        let c = both3 (m .is) (eqb (m .agent) (h .from)) (fresh file used known made e (m .na)) (b .1) in
+        let b = both (h .says) (m .is && eqb (m .agent) (h .from) && fresh file used (m .na)) t in
+        let c = both3 (m .is) (eqb (m .agent) (h .from)) (fresh file used (m .na)) (b .1) in
         let g = shapes file P .hello-sound (h .row) here-row (c .0) in
         let f = fresh-sound (m .na) (g .3 .na .row) (c .2) in
         event-same
@@ -150,12 +149,12 @@ module _ (file : List ℕ) (P : Promised file) (e : ℕ) (le : e < eventsOf file
         (ClientHello (f .2))
 
     pub client-hello-complete : Step (bad file) (beginning file e) (eventMeant file (eventAt file e)) 3 →
-        clientHello file used known made e (heardAt file e) ≡ true
+        clientHello file used (heardAt file e) ≡ true
     unfolding clientHello
     client-hello-complete s = go refl s
       where
         go : {E : event.event} → eventMeant file (eventAt file e) ≡ E → Step (bad file) (beginning file e) E 3 →
-            clientHello file used known made e (heardAt file e) ≡ true
+            clientHello file used (heardAt file e) ≡ true
         go q (ClientHello {Na = Na} u) =
             let h = heardAt file e in
             let m = helloOf file (h .row) in
@@ -163,7 +162,7 @@ module _ (file : List ℕ) (P : Promised file) (e : ℕ) (le : e < eventsOf file
             let g = shapes file P .hello-complete (h .row) here-row (t .3) in
             rw (t .0, g .flag, eq-eqb (m .agent) (h .from) (g .agent ∙ sym (t .1)), fresh-complete (m .na) Na (g .na) u) refl
 
-    pub spy-keys-sound : spyKeys file used known made e (heardAt file e) ≡ true →
+    pub spy-keys-sound : spyKeys file known (heardAt file e) ≡ true →
         Step (bad file) (beginning file e) (eventMeant file (eventAt file e)) 2
     unfolding spyKeys
     spy-keys-sound t =
@@ -180,12 +179,12 @@ module _ (file : List ℕ) (P : Promised file) (e : ℕ) (le : e < eventsOf file
         (rw (g .4 .nb .meant) at (R .known-right (d .nb) (g .4 .nb .row) .0 (c .3))))
 
     pub spy-keys-complete : Step (bad file) (beginning file e) (eventMeant file (eventAt file e)) 2 →
-        spyKeys file used known made e (heardAt file e) ≡ true
+        spyKeys file known (heardAt file e) ≡ true
     unfolding spyKeys
     spy-keys-complete s = go refl s
       where
         go : {E : event.event} → eventMeant file (eventAt file e) ≡ E → Step (bad file) (beginning file e) E 2 →
-            spyKeys file used known made e (heardAt file e) ≡ true
+            spyKeys file known (heardAt file e) ≡ true
         go q (SpyKeys x y z) =
             let h = heardAt file e in
             let d = derivedOf file (h .row) in
@@ -196,7 +195,7 @@ module _ (file : List ℕ) (P : Promised file) (e : ℕ) (le : e < eventsOf file
             let k = R .known-right (d .nb) (g .nb .row) .1 (rw (g .nb .meant) z) in
             rw (t .0, eq-eqb (h .from) 0 (t .1), g .flag, i, j, k) refl
 
-    pub oops-sound : oops file used known made e (heardAt file e) ≡ true → Step (bad file) (beginning file e) (eventMeant file (eventAt file e)) 14
+    pub oops-sound : oops file e (heardAt file e) ≡ true → Step (bad file) (beginning file e) (eventMeant file (eventAt file e)) 14
     unfolding oops
     oops-sound t =
         let h = heardAt file e in
@@ -205,12 +204,12 @@ module _ (file : List ℕ) (P : Promised file) (e : ℕ) (le : e < eventsOf file
         let u = under-sound file P e not-later (h .from) (h .row) (b .3) (record { row = here-row; meant = g .whole }) in
         event-same (says-meant file (eventAt file e) (b .0) ∙ says-same refl (eqb-true (h .to) 0 (b .1)) (g .whole)) (Oops (u .2))
 
-    pub oops-complete : Step (bad file) (beginning file e) (eventMeant file (eventAt file e)) 14 → oops file used known made e (heardAt file e) ≡ true
+    pub oops-complete : Step (bad file) (beginning file e) (eventMeant file (eventAt file e)) 14 → oops file e (heardAt file e) ≡ true
     unfolding oops
     oops-complete s = go refl s
       where
         go : {E : event.event} → eventMeant file (eventAt file e) ≡ E → Step (bad file) (beginning file e) E 14 →
-            oops file used known made e (heardAt file e) ≡ true
+            oops file e (heardAt file e) ≡ true
         go q (Oops i) =
             let h = heardAt file e in
             let t = says-told file (eventAt file e) q in
@@ -218,14 +217,14 @@ module _ (file : List ℕ) (P : Promised file) (e : ℕ) (le : e < eventsOf file
             let u = under-complete file P e not-later (h .from) (h .row) (rw (← t .1) at i) (record { row = here-row; meant = t .3 }) in
             rw (t .0, eq-eqb (h .to) 0 (t .2), g .flag, u) refl
 
-    pub server-hello-sound : serverHello file used known made e (heardAt file e) ≡ true →
+    pub server-hello-sound : serverHello file used e (heardAt file e) ≡ true →
         Step (bad file) (beginning file e) (eventMeant file (eventAt file e)) 4
     unfolding serverHello
     server-hello-sound t =
         let h = heardAt file e in
         let m = replyOf file (h .row) in
-        let b = both (h .says) (m .is && fresh file used known made e (m .nb) && earlier file (HelloFor (h .from) (h .to) (m .sid)) e) t in
-        let c = both3 (m .is) (fresh file used known made e (m .nb)) (earlier file (HelloFor (h .from) (h .to) (m .sid)) e) (b .1) in
+        let b = both (h .says) (m .is && fresh file used (m .nb) && earlier file (HelloFor (h .from) (h .to) (m .sid)) e) t in
+        let c = both3 (m .is) (fresh file used (m .nb)) (earlier file (HelloFor (h .from) (h .to) (m .sid)) e) (b .1) in
         let g = shapes file P .reply-sound (h .row) here-row (c .0) in
         let f = fresh-sound (m .nb) (g .3 .nb .row) (c .1) in
         let u = hello-for-sound file P e not-later (h .from) (h .to) (m .sid) (c .2) (g .3 .sid) in
@@ -235,12 +234,12 @@ module _ (file : List ℕ) (P : Promised file) (e : ℕ) (le : e < eventsOf file
         (ServerHello (f .2) (u .3))
 
     pub server-hello-complete : Step (bad file) (beginning file e) (eventMeant file (eventAt file e)) 4 →
-        serverHello file used known made e (heardAt file e) ≡ true
+        serverHello file used e (heardAt file e) ≡ true
     unfolding serverHello
     server-hello-complete s = go refl s
       where
         go : {E : event.event} → eventMeant file (eventAt file e) ≡ E → Step (bad file) (beginning file e) E 4 →
-            serverHello file used known made e (heardAt file e) ≡ true
+            serverHello file used e (heardAt file e) ≡ true
         go q (ServerHello {Nb = Nb} n i) =
             let h = heardAt file e in
             let m = replyOf file (h .row) in

@@ -1,2 +1,1 @@
-// The fourteen rules over rows: which of them put an event on those before it.
-pub mod earlier;
+// The rules of one message over rows: which of them put an event on those before it.

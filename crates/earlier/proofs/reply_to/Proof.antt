@@ -1,0 +1,12 @@
+-- `earlier::reply_to` meets its contract: each call gives what the definition names.
+-- Assumes nothing.
+use mathlib.Core.Path.{refl}
+use borrow.Author.Needs.{needs}
+use Rattle.earlier.proofs.reply_to.Statement.{statement}
+use Rattle.earlier.proofs.reply_to.Tie as tie
+
+returns : tie.Need-returns
+returns c = rw (c .is-reply .ensures, c .before .said-to .ensures) refl
+
+pub reply-to-spec : {M : Type 1} → statement M
+reply-to-spec = tie.close (tie.spec (λ c κs. search needs) (λ c κs. search needs) returns)

@@ -1,0 +1,215 @@
+// One search over earlier events, for what any rule looks for.
+use trace::Event;
+use trace::EventNo;
+ghost use mathlib.Core.Path.{_≡_};
+ghost use Rattle.earlier.specs.Earlier.{heardAt, saidTo, saidBy, notedBy, isHello, isReply, fitsIn, earlier};
+ghost use Rattle.earlier.specs.declared.Wanted.the-variants.{HelloFor, HelloBy, HelloTo, ReplyWith, ReplyTo, ReplyBy, Cert, Secret, Sent, Session, Under};
+
+// An event, flat: a note has no receiver.
+pub struct Heard {
+    pub says: bool,
+    pub from: u16,
+    pub to: u16,
+    pub row: u16,
+}
+
+// What a rule looks for: agents by their numbers, other parts by their rows.
+pub enum Wanted {
+    // Anyone said CH to B with this A and SID: B, A, SID.
+    HelloFor(u16, u16, u16),
+    // A said CH to B: A, B, Na, SID, Pa.
+    HelloBy(u16, u16, u16, u16, u16),
+    // Anyone said CH to B: B, A, Na, SID, Pa.
+    HelloTo(u16, u16, u16, u16, u16),
+    // Anyone said some SH with Nb to A: A, Nb.
+    ReplyWith(u16, u16),
+    // Anyone said SH to A: A, Nb, SID, Pb.
+    ReplyTo(u16, u16, u16, u16),
+    // B said SH to A: B, A, Nb, SID, Pb.
+    ReplyBy(u16, u16, u16, u16, u16),
+    // Anyone said cert(B, K) to A: A, B, K.
+    Cert(u16, u16, u16),
+    // A noted {Agent B, PMS}: A, B, PMS.
+    Secret(u16, u16, u16),
+    // Anyone said Crypt (B's public key) PMS to B: B, PMS.
+    Sent(u16, u16),
+    // Someone noted {SID, Agent A, Agent B, M}: who, SID, A, B, M.
+    Session(u16, u16, u16, u16, u16),
+    // A said something under a key to anyone: A, the key.
+    Under(u16, u16),
+}
+
+pub fn hear(file: &[u8], e: u16) -> Heard
+    ensures { λ h. ⌜ h ≡ heardAt (now (file .entry)) e ⌝ }
+{
+    let event = trace::event_at(file, EventNo(e));
+    match event {
+        Event::Says(a, b, r) => Heard {
+            says: true,
+            from: a.0,
+            to: b.0,
+            row: r.0,
+        },
+        Event::Notes(a, r) => Heard {
+            says: false,
+            from: a.0,
+            to: 0,
+            row: r.0,
+        },
+    }
+}
+
+pub fn said_to(h: Heard, to: u16) -> bool
+    ensures { λ b. ⌜ b ≡ saidTo h to ⌝ }
+{
+    (h.says) & (h.to == to)
+}
+
+pub fn said_by(h: Heard, from: u16, to: u16) -> bool
+    ensures { λ b. ⌜ b ≡ saidBy h from to ⌝ }
+{
+    (h.says) & (h.from == from) & (h.to == to)
+}
+
+pub fn noted_by(h: Heard, from: u16) -> bool
+    ensures { λ b. ⌜ b ≡ notedBy h from ⌝ }
+{
+    (!h.says) & (h.from == from)
+}
+
+fn is_hello(file: &[u8], r: u16, agent: u16, na: u16, sid: u16, pa: u16) -> bool
+    ensures { λ b. ⌜ b ≡ isHello (now (file .entry)) r agent na sid pa ⌝ }
+{
+    let m = forms::client_hello(file, r);
+    (m.is) & (m.agent == agent) & (m.na == na) & (m.sid == sid) & (m.pa == pa)
+}
+
+fn is_reply(file: &[u8], r: u16, nb: u16, sid: u16, pb: u16) -> bool
+    ensures { λ b. ⌜ b ≡ isReply (now (file .entry)) r nb sid pb ⌝ }
+{
+    let m = forms::server_hello(file, r);
+    (m.is) & (m.nb == nb) & (m.sid == sid) & (m.pb == pb)
+}
+
+fn hello_for(file: &[u8], h: Heard, to: u16, agent: u16, sid: u16) -> bool
+    ensures { λ b. ⌜ b ≡ fitsIn (now (file .entry)) (HelloFor to agent sid) h ⌝ }
+{
+    let m = forms::client_hello(file, h.row);
+    let said = said_to(h, to);
+    said & ((m.is) & (m.agent == agent) & (m.sid == sid))
+}
+
+fn reply_with(file: &[u8], h: Heard, to: u16, nb: u16) -> bool
+    ensures { λ b. ⌜ b ≡ fitsIn (now (file .entry)) (ReplyWith to nb) h ⌝ }
+{
+    let m = forms::server_hello(file, h.row);
+    let said = said_to(h, to);
+    said & ((m.is) & (m.nb == nb))
+}
+
+fn certified(file: &[u8], h: Heard, to: u16, agent: u16, key: u16) -> bool
+    ensures { λ b. ⌜ b ≡ fitsIn (now (file .entry)) (Cert to agent key) h ⌝ }
+{
+    let m = forms::certificate(file, h.row);
+    let said = said_to(h, to);
+    said & ((m.is) & (m.agent == agent) & (m.key == key))
+}
+
+fn kept(file: &[u8], h: Heard, from: u16, agent: u16, secret: u16) -> bool
+    ensures { λ b. ⌜ b ≡ fitsIn (now (file .entry)) (Secret from agent secret) h ⌝ }
+{
+    let m = forms::secret_note(file, h.row);
+    let noted = noted_by(h, from);
+    noted & ((m.is) & (m.agent == agent) & (m.secret == secret))
+}
+
+fn exchanged(file: &[u8], h: Heard, to: u16, secret: u16) -> bool
+    ensures { λ b. ⌜ b ≡ fitsIn (now (file .entry)) (Sent to secret) h ⌝ }
+{
+    let c = forms::leaves::crypt_of(file, h.row);
+    let k = forms::leaves::public_of(file, c.first);
+    let said = said_to(h, to);
+    said & ((c.is) & (k.is) & (k.first == to) & (c.second == secret))
+}
+
+fn remembered(file: &[u8], h: Heard, from: u16, sid: u16, a: u16, b: u16, m: u16) -> bool
+    ensures { λ r. ⌜ r ≡ fitsIn (now (file .entry)) (Session from sid a b m) h ⌝ }
+{
+    let n = forms::session_note(file, h.row);
+    let noted = noted_by(h, from);
+    noted & ((n.is) & (n.sid == sid) & (n.a == a) & (n.b == b) & (n.m == m))
+}
+
+fn closed(file: &[u8], h: Heard, from: u16, key: u16) -> bool
+    ensures { λ b. ⌜ b ≡ fitsIn (now (file .entry)) (Under from key) h ⌝ }
+{
+    let c = forms::leaves::crypt_of(file, h.row);
+    ((h.says) & (h.from == from)) & ((c.is) & (c.first == key))
+}
+
+fn hello_by(file: &[u8], h: Heard, from: u16, to: u16, na: u16, sid: u16, pa: u16) -> bool
+    ensures { λ b. ⌜ b ≡ fitsIn (now (file .entry)) (HelloBy from to na sid pa) h ⌝ }
+{
+    let said = said_by(h, from, to);
+    let is = is_hello(file, h.row, from, na, sid, pa);
+    said & is
+}
+
+fn hello_to(file: &[u8], h: Heard, to: u16, agent: u16, na: u16, sid: u16, pa: u16) -> bool
+    ensures { λ b. ⌜ b ≡ fitsIn (now (file .entry)) (HelloTo to agent na sid pa) h ⌝ }
+{
+    let said = said_to(h, to);
+    let is = is_hello(file, h.row, agent, na, sid, pa);
+    said & is
+}
+
+fn reply_to(file: &[u8], h: Heard, to: u16, nb: u16, sid: u16, pb: u16) -> bool
+    ensures { λ b. ⌜ b ≡ fitsIn (now (file .entry)) (ReplyTo to nb sid pb) h ⌝ }
+{
+    let said = said_to(h, to);
+    let is = is_reply(file, h.row, nb, sid, pb);
+    said & is
+}
+
+fn reply_by(file: &[u8], h: Heard, from: u16, to: u16, nb: u16, sid: u16, pb: u16) -> bool
+    ensures { λ b. ⌜ b ≡ fitsIn (now (file .entry)) (ReplyBy from to nb sid pb) h ⌝ }
+{
+    let said = said_by(h, from, to);
+    let is = is_reply(file, h.row, nb, sid, pb);
+    said & is
+}
+
+// Whether event e is what is wanted.
+fn fits(file: &[u8], wanted: Wanted, e: u16) -> bool
+    ensures { λ b. ⌜ b ≡ fitsIn (now (file .entry)) wanted (heardAt (now (file .entry)) e) ⌝ }
+{
+    let h = hear(file, e);
+    match wanted {
+        Wanted::HelloFor(to, agent, sid) => hello_for(file, h, to, agent, sid),
+        Wanted::HelloBy(from, to, na, sid, pa) => hello_by(file, h, from, to, na, sid, pa),
+        Wanted::HelloTo(to, agent, na, sid, pa) => hello_to(file, h, to, agent, na, sid, pa),
+        Wanted::ReplyWith(to, nb) => reply_with(file, h, to, nb),
+        Wanted::ReplyTo(to, nb, sid, pb) => reply_to(file, h, to, nb, sid, pb),
+        Wanted::ReplyBy(from, to, nb, sid, pb) => reply_by(file, h, from, to, nb, sid, pb),
+        Wanted::Cert(to, agent, key) => certified(file, h, to, agent, key),
+        Wanted::Secret(from, agent, secret) => kept(file, h, from, agent, secret),
+        Wanted::Sent(to, secret) => exchanged(file, h, to, secret),
+        Wanted::Session(from, sid, a, b, m) => remembered(file, h, from, sid, a, b, m),
+        Wanted::Under(from, key) => closed(file, h, from, key),
+    }
+}
+
+// Whether some event before e is what is wanted.
+pub fn happened(file: &[u8], wanted: Wanted, e: u16) -> bool
+    ensures { λ b. ⌜ b ≡ earlier (now (file .entry)) wanted e ⌝ }
+{
+    let mut j: u16 = 0;
+    while j < e {
+        let found = fits(file, wanted, j);
+        if found {
+            return true;
+        }
+        j += 1;
+    }
+    false
+}

@@ -1,0 +1,2 @@
+pub mod Finishes
+pub mod Accepts
