@@ -1,3 +1,6 @@
 pub mod Walk
+pub mod Lowest
+pub mod Reply
 pub mod Judged
+pub mod Faulted
 pub mod Promises
