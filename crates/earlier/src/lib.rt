@@ -94,89 +94,130 @@ fn is_reply(file: &[u8], r: u16, nb: u16, sid: u16, pb: u16) -> bool
 fn hello_for(file: &[u8], h: Heard, to: u16, agent: u16, sid: u16) -> bool
     ensures { λ b. ⌜ b ≡ fitsIn (now (file .entry)) (HelloFor to agent sid) h ⌝ }
 {
-    let m = forms::client_hello(file, h.row);
     let said = said_to(h, to);
-    said & ((m.is) & (m.agent == agent) & (m.sid == sid))
+    if said {
+        let m = forms::client_hello(file, h.row);
+        (m.is) & (m.agent == agent) & (m.sid == sid)
+    } else {
+        false
+    }
 }
 
 fn reply_with(file: &[u8], h: Heard, to: u16, nb: u16) -> bool
     ensures { λ b. ⌜ b ≡ fitsIn (now (file .entry)) (ReplyWith to nb) h ⌝ }
 {
-    let m = forms::server_hello(file, h.row);
     let said = said_to(h, to);
-    said & ((m.is) & (m.nb == nb))
+    if said {
+        let m = forms::server_hello(file, h.row);
+        (m.is) & (m.nb == nb)
+    } else {
+        false
+    }
 }
 
 fn certified(file: &[u8], h: Heard, to: u16, agent: u16, key: u16) -> bool
     ensures { λ b. ⌜ b ≡ fitsIn (now (file .entry)) (Cert to agent key) h ⌝ }
 {
-    let m = forms::certificate(file, h.row);
     let said = said_to(h, to);
-    said & ((m.is) & (m.agent == agent) & (m.key == key))
+    if said {
+        let m = forms::certificate(file, h.row);
+        (m.is) & (m.agent == agent) & (m.key == key)
+    } else {
+        false
+    }
 }
 
 fn kept(file: &[u8], h: Heard, from: u16, agent: u16, secret: u16) -> bool
     ensures { λ b. ⌜ b ≡ fitsIn (now (file .entry)) (Secret from agent secret) h ⌝ }
 {
-    let m = forms::secret_note(file, h.row);
     let noted = noted_by(h, from);
-    noted & ((m.is) & (m.agent == agent) & (m.secret == secret))
+    if noted {
+        let m = forms::secret_note(file, h.row);
+        (m.is) & (m.agent == agent) & (m.secret == secret)
+    } else {
+        false
+    }
 }
 
 fn exchanged(file: &[u8], h: Heard, to: u16, secret: u16) -> bool
     ensures { λ b. ⌜ b ≡ fitsIn (now (file .entry)) (Sent to secret) h ⌝ }
 {
-    let c = forms::leaves::crypt_of(file, h.row);
-    let k = forms::leaves::public_of(file, c.first);
     let said = said_to(h, to);
-    said & ((c.is) & (k.is) & (k.first == to) & (c.second == secret))
+    if said {
+        let c = forms::leaves::crypt_of(file, h.row);
+        let k = forms::leaves::public_of(file, c.first);
+        (c.is) & (k.is) & (k.first == to) & (c.second == secret)
+    } else {
+        false
+    }
 }
 
 fn remembered(file: &[u8], h: Heard, from: u16, sid: u16, a: u16, b: u16, m: u16) -> bool
     ensures { λ r. ⌜ r ≡ fitsIn (now (file .entry)) (Session from sid a b m) h ⌝ }
 {
-    let n = forms::session_note(file, h.row);
     let noted = noted_by(h, from);
-    noted & ((n.is) & (n.sid == sid) & (n.a == a) & (n.b == b) & (n.m == m))
+    if noted {
+        let n = forms::session_note(file, h.row);
+        (n.is) & (n.sid == sid) & (n.a == a) & (n.b == b) & (n.m == m)
+    } else {
+        false
+    }
 }
 
 fn closed(file: &[u8], h: Heard, from: u16, key: u16) -> bool
     ensures { λ b. ⌜ b ≡ fitsIn (now (file .entry)) (Under from key) h ⌝ }
 {
-    let c = forms::leaves::crypt_of(file, h.row);
-    ((h.says) & (h.from == from)) & ((c.is) & (c.first == key))
+    let said = (h.says) & (h.from == from);
+    if said {
+        let c = forms::leaves::crypt_of(file, h.row);
+        (c.is) & (c.first == key)
+    } else {
+        false
+    }
 }
 
 fn hello_by(file: &[u8], h: Heard, from: u16, to: u16, na: u16, sid: u16, pa: u16) -> bool
     ensures { λ b. ⌜ b ≡ fitsIn (now (file .entry)) (HelloBy from to na sid pa) h ⌝ }
 {
     let said = said_by(h, from, to);
-    let is = is_hello(file, h.row, from, na, sid, pa);
-    said & is
+    if said {
+        is_hello(file, h.row, from, na, sid, pa)
+    } else {
+        false
+    }
 }
 
 fn hello_to(file: &[u8], h: Heard, to: u16, agent: u16, na: u16, sid: u16, pa: u16) -> bool
     ensures { λ b. ⌜ b ≡ fitsIn (now (file .entry)) (HelloTo to agent na sid pa) h ⌝ }
 {
     let said = said_to(h, to);
-    let is = is_hello(file, h.row, agent, na, sid, pa);
-    said & is
+    if said {
+        is_hello(file, h.row, agent, na, sid, pa)
+    } else {
+        false
+    }
 }
 
 fn reply_to(file: &[u8], h: Heard, to: u16, nb: u16, sid: u16, pb: u16) -> bool
     ensures { λ b. ⌜ b ≡ fitsIn (now (file .entry)) (ReplyTo to nb sid pb) h ⌝ }
 {
     let said = said_to(h, to);
-    let is = is_reply(file, h.row, nb, sid, pb);
-    said & is
+    if said {
+        is_reply(file, h.row, nb, sid, pb)
+    } else {
+        false
+    }
 }
 
 fn reply_by(file: &[u8], h: Heard, from: u16, to: u16, nb: u16, sid: u16, pb: u16) -> bool
     ensures { λ b. ⌜ b ≡ fitsIn (now (file .entry)) (ReplyBy from to nb sid pb) h ⌝ }
 {
     let said = said_by(h, from, to);
-    let is = is_reply(file, h.row, nb, sid, pb);
-    said & is
+    if said {
+        is_reply(file, h.row, nb, sid, pb)
+    } else {
+        false
+    }
 }
 
 // Whether event e is what is wanted.
@@ -199,17 +240,18 @@ fn fits(file: &[u8], wanted: Wanted, e: u16) -> bool
     }
 }
 
-// Whether some event before e is what is wanted.
+// Whether some event before e is what is wanted: the latest first, since a handshake's events stand close together. The message is
+// read only where sender and receiver fit.
 pub fn happened(file: &[u8], wanted: Wanted, e: u16) -> bool
     ensures { λ b. ⌜ b ≡ earlier (now (file .entry)) wanted e ⌝ }
 {
-    let mut j: u16 = 0;
-    while j < e {
+    let mut j = e;
+    while 0 < j {
+        j -= 1;
         let found = fits(file, wanted, j);
         if found {
             return true;
         }
-        j += 1;
     }
     false
 }

@@ -1,12 +1,15 @@
--- `earlier::hello_by` meets its contract: each call gives what the definition names.
+-- `earlier::hello_by` meets its contract: the message is read where sender and receiver fit, and else nothing does.
 -- Assumes nothing.
-use mathlib.Core.Path.{refl}
+use mathlib.Core.Path.{refl, sym, _∙_}
 use borrow.Author.Needs.{needs}
 use Rattle.earlier.proofs.hello_by.Statement.{statement}
 use Rattle.earlier.proofs.hello_by.Tie as tie
 
 returns : tie.Need-returns
-returns c = rw (c .is-hello .ensures, c .before .said-by .ensures) refl
+returns c = rw (c .is-hello .ensures, sym (c .before .before .said-by .ensures) ∙ c .before .if1 .taken) refl
+
+returns-2 : tie.Need-returns-2
+returns-2 c = rw (sym (c .before .said-by .ensures) ∙ c .if1 .left) refl
 
 pub hello-by-spec : {M : Type 1} → statement M
-hello-by-spec = tie.close (tie.spec (λ c κs. search needs) (λ c κs. search needs) returns)
+hello-by-spec = tie.close (tie.spec (λ c κs. search needs) (λ c κs. search needs) returns returns-2)

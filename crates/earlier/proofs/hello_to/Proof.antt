@@ -1,12 +1,15 @@
--- `earlier::hello_to` meets its contract: each call gives what the definition names.
+-- `earlier::hello_to` meets its contract: the message is read where sender and receiver fit, and else nothing does.
 -- Assumes nothing.
-use mathlib.Core.Path.{refl}
+use mathlib.Core.Path.{refl, sym, _∙_}
 use borrow.Author.Needs.{needs}
 use Rattle.earlier.proofs.hello_to.Statement.{statement}
 use Rattle.earlier.proofs.hello_to.Tie as tie
 
 returns : tie.Need-returns
-returns c = rw (c .is-hello .ensures, c .before .said-to .ensures) refl
+returns c = rw (c .is-hello .ensures, sym (c .before .before .said-to .ensures) ∙ c .before .if1 .taken) refl
+
+returns-2 : tie.Need-returns-2
+returns-2 c = rw (sym (c .before .said-to .ensures) ∙ c .if1 .left) refl
 
 pub hello-to-spec : {M : Type 1} → statement M
-hello-to-spec = tie.close (tie.spec (λ c κs. search needs) (λ c κs. search needs) returns)
+hello-to-spec = tie.close (tie.spec (λ c κs. search needs) (λ c κs. search needs) returns returns-2)

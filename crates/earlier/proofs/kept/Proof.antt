@@ -1,12 +1,15 @@
--- `earlier::kept` meets its contract: each call gives what the definition names.
+-- `earlier::kept` meets its contract: the message is read where sender and receiver fit, and else nothing does.
 -- Assumes nothing.
-use mathlib.Core.Path.{refl}
+use mathlib.Core.Path.{refl, sym, _∙_}
 use borrow.Author.Needs.{needs}
 use Rattle.earlier.proofs.kept.Statement.{statement}
 use Rattle.earlier.proofs.kept.Tie as tie
 
 returns : tie.Need-returns
-returns c = rw (c .before .before .before .noted-by .ensures, c .before .before .before .before .secret-note .ensures) refl
+returns c = rw (c .before .before .before .secret-note .ensures, sym (c .before .before .before .before .before .noted-by .ensures) ∙ c .before .before .before .before .if1 .taken) refl
+
+returns-2 : tie.Need-returns-2
+returns-2 c = rw (sym (c .before .noted-by .ensures) ∙ c .if1 .left) refl
 
 pub kept-spec : {M : Type 1} → statement M
-kept-spec = tie.close (tie.spec (λ c κs. search needs) (λ c κs. search needs) returns)
+kept-spec = tie.close (tie.spec (λ c κs. search needs) (λ c κs. search needs) returns returns-2)

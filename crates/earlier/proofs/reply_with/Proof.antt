@@ -1,12 +1,15 @@
--- `earlier::reply_with` meets its contract: each call gives what the definition names.
+-- `earlier::reply_with` meets its contract: the message is read where sender and receiver fit, and else nothing does.
 -- Assumes nothing.
-use mathlib.Core.Path.{refl}
+use mathlib.Core.Path.{refl, sym, _∙_}
 use borrow.Author.Needs.{needs}
 use Rattle.earlier.proofs.reply_with.Statement.{statement}
 use Rattle.earlier.proofs.reply_with.Tie as tie
 
 returns : tie.Need-returns
-returns c = rw (c .before .before .said-to .ensures, c .before .before .before .server-hello .ensures) refl
+returns c = rw (c .before .before .server-hello .ensures, sym (c .before .before .before .before .said-to .ensures) ∙ c .before .before .before .if1 .taken) refl
+
+returns-2 : tie.Need-returns-2
+returns-2 c = rw (sym (c .before .said-to .ensures) ∙ c .if1 .left) refl
 
 pub reply-with-spec : {M : Type 1} → statement M
-reply-with-spec = tie.close (tie.spec (λ c κs. search needs) (λ c κs. search needs) returns)
+reply-with-spec = tie.close (tie.spec (λ c κs. search needs) (λ c κs. search needs) returns returns-2)
