@@ -1,3 +1,9 @@
 pub mod One
 pub mod Secrets
 pub mod Walk
+pub mod Right
+pub mod Least
+pub mod Judges
+pub mod Faults
+pub mod Cases
+pub mod Idle

@@ -27,6 +27,7 @@ use Rattle.trace.specs.declared.Event.the-variants.{Notes}
 use Rattle.trace.proofs.First.{lt-suc}
 use Rattle.spy.specs.Knowledge as question
 use Rattle.spy.specs.Knowledge.{Mark, analysed, seenIn}
+use Rattle.earlier.proofs.Meant.{in-beginning}
 use Rattle.spy.proofs.Seen.{begins, told-file, promised-file}
 use Rattle.judge.specs.Judged.{AcceptedTo, accepted}
 use Rattle.judge.specs.Promises.{Noted, MadeFrom, itself, master, SecretOnFiles}
@@ -35,17 +36,6 @@ two-analysed : {H : paper.msg → Type 0} {X : paper.msg} {m : ℕ} → Mark H X
 two-analysed (analysed a) e = a
 two-analysed (question.made n s) e = absurd (omega arith)
 two-analysed (question.neither n) e = absurd (omega arith)
-
--- an event of the file is in its trace
-in-beginning : (file : List ℕ) (e n : ℕ) → e < n → In (eventMeant file (eventAt file e)) (beginning file n)
-unfolding beginning
-in-beginning file e zero l = absurd (omega arith)
-in-beginning file e (suc n) l = go (lt-suc e n l) (λ (h : e < n). in-beginning file e n h)
-  where
-    go : (e < n) ⊎ (e ≡ n) → (e < n → In (eventMeant file (eventAt file e)) (beginning file n)) →
-        In (eventMeant file (eventAt file e)) (eventMeant file (eventAt file n) ∷ beginning file n)
-    go (inl h) ih = there (ih h)
-    go (inr q) ih = rw q here
 
 -- what rows of these kinds mean
 module _ {m : ℕ → paper.msg} where

@@ -4,3 +4,5 @@ pub mod Reply
 pub mod Judged
 pub mod Faulted
 pub mod Promises
+pub mod Cases
+pub mod Idle

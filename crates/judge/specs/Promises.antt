@@ -14,7 +14,9 @@ use Rattle.trace.specs.declared.Row.the-variants.{Agent, Nonce, Prf, Pair}
 use Rattle.trace.specs.declared.Event.the-variants.{Notes}
 use Rattle.spy.specs.Knowledge.{Knows}
 use Rattle.spy.specs.declared.Answer.the-variants.{Written}
+use Rattle.trace.specs.Fault.{Span}
 use Rattle.judge.specs.Judged.{Judged}
+use Rattle.judge.specs.Faulted.{Faulted}
 use Rattle.judge.specs.declared.Verdict.{Verdict}
 use Rattle.judge.specs.declared.Verdict.the-variants.{Accepted}
 
@@ -23,6 +25,10 @@ abbrev pub OneVerdict : Type 0
 OneVerdict =
     (file before : List ℕ) (v w : Verdict) (after after′ : List ℕ) →
     Judged file before v after → Judged file before w after′ → (v ≡ w) × (after ≡ after′)
+
+-- and one part at fault
+abbrev pub OneFault : Type 0
+OneFault = (file : List ℕ) (s t : Span) → Faulted file s → Faulted file t → s ≡ t
 
 -- event e is A's note of the pre-master secret in row `secret` for B, neither compromised
 pub record Noted (file : List ℕ) (secret : ℕ) : Type 0 where

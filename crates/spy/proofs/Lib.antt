@@ -9,4 +9,3 @@ pub mod Starting
 pub mod Makes
 pub mod Knows
 pub mod Seen
-pub mod Cases

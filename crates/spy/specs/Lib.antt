@@ -2,4 +2,3 @@ pub mod Closure
 pub mod Made
 pub mod Knowledge
 pub mod Promises
-pub mod Cases

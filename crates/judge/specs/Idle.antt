@@ -1,0 +1,57 @@
+-- The five idle judges of document 01, "Strength of the contracts": none of them meets the relations.
+use Prim.Native.Nat.{ℕ, _≤_}
+use mathlib.Core.List.{List}
+use mathlib.Core.Path.{_≡_}
+use lib.ListN.{length}
+use Rattle.trace.specs.File.{eventsOf}
+use Rattle.trace.specs.Refusal.{Told}
+use Rattle.trace.specs.declared.Cause.{Cause}
+use Rattle.trace.specs.declared.Reading.the-variants.{Readable}
+use Rattle.spy.specs.Knowledge.{Knows}
+use Rattle.spy.specs.declared.Answer.{Answer}
+use Rattle.judge.specs.declared.Verdict.{Verdict}
+use Rattle.judge.specs.declared.Verdict.the-variants.{Refused, Illegal, Accepted}
+use Rattle.judge.specs.Judged.{Fits, Judged}
+use Rattle.judge.specs.Cases.{fileOf, buffer, P6}
+
+-- a judge: what it replies to the two questions, and what it leaves in the buffers
+pub record Judge : Type 0 where
+  pub verdict : (file before : List ℕ) → Verdict
+  pub rules : (file before : List ℕ) → List ℕ
+  pub knowledge : (file : List ℕ) (n : ℕ) (before : List ℕ) → Answer
+  pub marks : (file : List ℕ) (n : ℕ) (before : List ℕ) → List ℕ
+
+pub record Meets (J : Judge) : Type 0 where
+  pub judged : (file before : List ℕ) → Judged file before (J .verdict file before) (J .rules file before)
+  pub knows : (file : List ℕ) (n : ℕ) (before : List ℕ) → Knows file n before (J .knowledge file n before) (J .marks file n before)
+
+-- a file that is not refused, with room in the buffer
+abbrev pub Asked : (file before : List ℕ) → Type 0
+Asked file before = Told file Readable × (eventsOf file ≤ length before)
+
+abbrev pub RefusesAll : Judge → Type 0
+RefusesAll J = (file before : List ℕ) → (c : Cause) × (J .verdict file before ≡ Refused c)
+
+abbrev pub AcceptsAll : Judge → Type 0
+AcceptsAll J = (file before : List ℕ) → Asked file before → J .verdict file before ≡ Accepted (eventsOf file)
+
+abbrev pub WritesNothing : Judge → Type 0
+WritesNothing J = (file : List ℕ) (n : ℕ) (before : List ℕ) → J .marks file n before ≡ before
+
+-- judges the first event and waves the rest through
+abbrev pub FirstOnly : Judge → Type 0
+FirstOnly J = (file before : List ℕ) → Asked file before → (k : ℕ) → Fits file 0 k → J .verdict file before ≡ Accepted (eventsOf file)
+
+-- names another length than that of the longest accepted beginning, where document 01 says 2
+abbrev pub InventsLength : Judge → Type 0
+InventsLength J = (n : ℕ) × (J .verdict (fileOf P6) (buffer (eventsOf (fileOf P6))) ≡ Illegal n) × ¬ (n ≡ 2)
+
+pub data Idle (J : Judge) : Type 0 where
+  refuses : RefusesAll J → Idle J
+  accepts : AcceptsAll J → Idle J
+  silent : WritesNothing J → Idle J
+  first : FirstOnly J → Idle J
+  invents : InventsLength J → Idle J
+
+abbrev pub IdleShutOut : Type 0
+IdleShutOut = (J : Judge) → Idle J → ¬ Meets J
