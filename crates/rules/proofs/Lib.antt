@@ -1,2 +1,4 @@
 pub mod Steps
 pub mod Answers
+pub mod Making
+pub mod Branches

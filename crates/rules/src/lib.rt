@@ -1,1 +1,162 @@
-// The rules of one message over rows: which of them put an event on those before it.
+// The rules of one message over rows: which of them put an event on those before it. Shapes are
+// tested before a search is run.
+use earlier::Heard;
+use earlier::Wanted;
+use spy::closure::row_marked;
+ghost use mathlib.Core.Path.{_≡_};
+ghost use Rattle.rules.specs.Tests as tests;
+
+const SPY: u16 = 0;
+
+const ROWS: u16 = 1024;
+
+// Whether a row is a plain nonce that no event before used.
+fn is_fresh(file: &[u8], used: &[u8; 1024], r: u16) -> bool
+    ensures { λ b. ⌜ b ≡ tests.fresh (now (file .entry)) (now (used .entry)) r ⌝ }
+{
+    let plain = forms::leaves::is_plain(file, r);
+    let old = row_marked(used, r);
+    plain & !old
+}
+
+// Whether the spy can make a row: a sweep up to it, unless it is known.
+fn can_make(file: &[u8], known: &[u8; 1024], r: u16) -> bool
+    ensures { λ b. ⌜ b ≡ tests.canMake (now (file .entry)) (now (known .entry)) r ⌝ }
+{
+    let analysed = row_marked(known, r);
+    if analysed {
+        return true;
+    }
+    if ROWS <= r {
+        return false;
+    }
+    let mut marks = [0u8; 1024];
+    spy::made::write_marks(file, known, &mut marks, r + 1);
+    0 < marks[r as usize]
+}
+
+// Rule 1: the spy says what it can make.
+pub fn fake(file: &[u8], known: &[u8; 1024], h: Heard) -> bool
+    ensures { λ b. ⌜ b ≡ tests.fake (now (file .entry)) (now (known .entry)) h ⌝ }
+{
+    if (h.says) & (h.from == SPY) {
+        can_make(file, known, h.row)
+    } else {
+        false
+    }
+}
+
+// Rule 2: the spy notes keys of nonces that it knows.
+pub fn spy_keys(file: &[u8], known: &[u8; 1024], h: Heard) -> bool
+    ensures { λ b. ⌜ b ≡ tests.spyKeys (now (file .entry)) (now (known .entry)) h ⌝ }
+{
+    let noted = earlier::noted_by(h, SPY);
+    if noted {
+        let d = forms::spy_keys(file, h.row);
+        let m = row_marked(known, d.m);
+        let na = row_marked(known, d.na);
+        let nb = row_marked(known, d.nb);
+        (d.is) & m & na & nb
+    } else {
+        false
+    }
+}
+
+// Rule 3: CH with a fresh nonce.
+pub fn client_hello(file: &[u8], used: &[u8; 1024], h: Heard) -> bool
+    ensures { λ b. ⌜ b ≡ tests.clientHello (now (file .entry)) (now (used .entry)) h ⌝ }
+{
+    if h.says {
+        let m = forms::client_hello(file, h.row);
+        let fresh = is_fresh(file, used, m.na);
+        (m.is) & (m.agent == h.from) & fresh
+    } else {
+        false
+    }
+}
+
+// Rule 4: SH with a fresh nonce, to the agent of a CH.
+pub fn server_hello(file: &[u8], used: &[u8; 1024], e: u16, h: Heard) -> bool
+    ensures { λ b. ⌜ b ≡ tests.serverHello (now (file .entry)) (now (used .entry)) e h ⌝ }
+{
+    if h.says {
+        let m = forms::server_hello(file, h.row);
+        let fresh = is_fresh(file, used, m.nb);
+        if (m.is) & fresh {
+            earlier::happened(file, Wanted::HelloFor(h.from, h.to, m.sid), e)
+        } else {
+            false
+        }
+    } else {
+        false
+    }
+}
+
+// Rule 5: an agent's certificate of its public key.
+pub fn certificate(file: &[u8], h: Heard) -> bool
+    ensures { λ b. ⌜ b ≡ tests.certificate (now (file .entry)) h ⌝ }
+{
+    if h.says {
+        let m = forms::certificate(file, h.row);
+        let k = forms::leaves::public_of(file, m.key);
+        (m.is) & (m.agent == h.from) & (k.is) & (k.first == h.from)
+    } else {
+        false
+    }
+}
+
+// Rule 6: a fresh secret noted, and then sent under the key of a certificate.
+pub fn key_exchange(file: &[u8], used: &[u8; 1024], e: u16, note: Heard, said: Heard) -> bool
+    ensures { λ b. ⌜ b ≡ tests.keyExchange (now (file .entry)) (now (used .entry)) e note said ⌝ }
+{
+    if note.says {
+        false
+    } else {
+        let k = forms::secret_note(file, note.row);
+        let fresh = is_fresh(file, used, k.secret);
+        let sent = earlier::said_by(said, note.from, k.agent);
+        let c = forms::leaves::crypt_of(file, said.row);
+        if (k.is) & fresh & sent & (c.is) & (c.second == k.secret) {
+            earlier::happened(file, Wanted::Cert(note.from, k.agent, c.first), e)
+        } else {
+            false
+        }
+    }
+}
+
+// Rule 7: the nonce of an SH and a secret of one's own, signed.
+pub fn cert_verify(file: &[u8], e: u16, h: Heard) -> bool
+    ensures { λ b. ⌜ b ≡ tests.certVerify (now (file .entry)) e h ⌝ }
+{
+    if h.says {
+        let m = forms::cert_verify(file, h.row);
+        if (m.is) & (m.signer == h.from) & (m.agent == h.to) {
+            let replied = earlier::happened(file, Wanted::ReplyWith(h.from, m.nb), e);
+            if replied {
+                earlier::happened(file, Wanted::Secret(h.from, h.to, m.secret), e)
+            } else {
+                false
+            }
+        } else {
+            false
+        }
+    } else {
+        false
+    }
+}
+
+// Rule 14: a session key that one spoke under, lost to the spy.
+pub fn oops(file: &[u8], e: u16, h: Heard) -> bool
+    ensures { λ b. ⌜ b ≡ tests.oops (now (file .entry)) e h ⌝ }
+{
+    if (h.says) & (h.to == SPY) {
+        let k = forms::leaves::session_of(file, h.row);
+        if k.is {
+            earlier::happened(file, Wanted::Under(h.from, h.row), e)
+        } else {
+            false
+        }
+    } else {
+        false
+    }
+}
