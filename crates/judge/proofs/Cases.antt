@@ -19,7 +19,7 @@ use Rattle.forms.specs.Forms.{threeOf, fourOf, helloOf, replyOf, keptOf, signed
 use Rattle.earlier.specs.Earlier.{earlier}
 use Rattle.rules.specs.Tests.{fake, spyKeys, clientHello, serverHello, certificate, keyExchange, certVerify, oops}
 use Rattle.sessions.specs.Tests.{clientFinished, serverFinished, bothFinished, clientAccepts, serverAccepts, clientResume, serverResume}
-use Rattle.judge.specs.declared.Verdict.{Verdict}
+use Rattle.judge.specs.declared.reply.Verdict.{Verdict}
 use Rattle.judge.specs.Walk.{walk}
 use Rattle.judge.specs.Lowest.{lowestNoted, lowestCrypt, lowestPlain, lowestSaid, lowestRule}
 use Rattle.judge.specs.Reply.{cleared, verdictReadable, rulesReadable}

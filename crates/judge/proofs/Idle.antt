@@ -10,8 +10,8 @@ use Rattle.trace.specs.declared.Cause.{Cause}
 use Rattle.spy.specs.declared.Answer.the-variants.{Written}
 use Rattle.spy.specs.Knowledge.{Knows}
 use Rattle.spy.proofs.Knows.{one-answer}
-use Rattle.judge.specs.declared.Verdict.{Verdict}
-use Rattle.judge.specs.declared.Verdict.the-variants.{Refused, Illegal, Accepted}
+use Rattle.judge.specs.declared.reply.Verdict.{Verdict}
+use Rattle.judge.specs.declared.reply.Verdict.the-variants.{Refused, Illegal, Accepted}
 use Rattle.judge.specs.Judged.{Fits, RuleAt, lowest, note, message, Judged, illegal, verdictLength}
 use Rattle.judge.specs.Cases.{Case, fileOf, buffer, Holds, P1, P3, P5, P6, P8, All, also, markedCases}
 use Rattle.judge.specs.Idle.{Asked, Judge, Meets, Idle, refuses, accepts, silent, first, invents, IdleShutOut}

@@ -19,7 +19,7 @@ use Rattle.judge.specs.Judged.{RuleBytes, Judged, refused, short, illega
 use Rattle.judge.specs.Walk.{Walked}
 use Rattle.judge.specs.Lowest.{ruleOf, exchangeOf}
 use Rattle.judge.specs.Reply.{cleared, walkFile, verdictAt, verdictReadable, rulesReadable}
-use Rattle.judge.specs.declared.Verdict.the-variants.{Refused}
+use Rattle.judge.specs.declared.reply.Verdict.the-variants.{Refused}
 use Rattle.judge.proofs.Walk.{Ended, walked}
 use Rattle.judge.proofs.Least.{rule-least, exchange-sound, exchange-complete}
 

@@ -20,7 +20,7 @@ use Rattle.trace.specs.declared.Reading as declared
 use Rattle.trace.proofs.Told.{refusals}
 use Rattle.judge.specs.Judged.{RuleAt, lowest, note, message, RuleBytes, Longest, refused, short, illegal, accepted}
 use Rattle.judge.specs.Promises.{OneVerdict}
-use Rattle.judge.specs.declared.Verdict.the-variants.{Refused, Illegal, Accepted}
+use Rattle.judge.specs.declared.reply.Verdict.the-variants.{Refused, Illegal, Accepted}
 
 -- no rule of one event fits a note of rule 6
 pub not-both : {bad : agent → Type 0} {evs : trace} {d e : event} {k : ℕ} → Exchange bad evs d e → ¬ Step bad evs d k

@@ -5,8 +5,8 @@ use lib.ListN.{replicate}
 use Rattle.trace.specs.File.{rowsOf, eventsOf}
 use Rattle.spy.specs.Knowledge.{Knows}
 use Rattle.spy.specs.declared.Answer.the-variants.{Written}
-use Rattle.judge.specs.declared.Verdict.{Verdict}
-use Rattle.judge.specs.declared.Verdict.the-variants.{Illegal, Accepted}
+use Rattle.judge.specs.declared.reply.Verdict.{Verdict}
+use Rattle.judge.specs.declared.reply.Verdict.the-variants.{Illegal, Accepted}
 use Rattle.judge.specs.Judged.{Judged}
 
 abbrev item : (a b c d e f g h : ℕ) → List ℕ → List ℕ

@@ -9,8 +9,8 @@ use Rattle.trace.specs.declared.Cause.{Cause}
 use Rattle.trace.specs.declared.Reading.the-variants.{Readable}
 use Rattle.spy.specs.Knowledge.{Knows}
 use Rattle.spy.specs.declared.Answer.{Answer}
-use Rattle.judge.specs.declared.Verdict.{Verdict}
-use Rattle.judge.specs.declared.Verdict.the-variants.{Refused, Illegal, Accepted}
+use Rattle.judge.specs.declared.reply.Verdict.{Verdict}
+use Rattle.judge.specs.declared.reply.Verdict.the-variants.{Refused, Illegal, Accepted}
 use Rattle.judge.specs.Judged.{Fits, Judged}
 use Rattle.judge.specs.Cases.{fileOf, buffer, P6}
 

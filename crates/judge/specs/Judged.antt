@@ -13,8 +13,8 @@ use Rattle.trace.specs.Meaning.{eventMeant, beginning, bad}
 use Rattle.trace.specs.declared.Cause.{Cause}
 use Rattle.trace.specs.declared.Cause.the-variants.{ShortBuffer}
 use Rattle.trace.specs.declared.Reading as reading
-use Rattle.judge.specs.declared.Verdict.{Verdict}
-use Rattle.judge.specs.declared.Verdict.the-variants.{Refused, Illegal, Accepted}
+use Rattle.judge.specs.declared.reply.Verdict.{Verdict}
+use Rattle.judge.specs.declared.reply.Verdict.the-variants.{Refused, Illegal, Accepted}
 
 -- the rules generate the first n events
 abbrev pub AcceptedTo : List ℕ → ℕ → Type 0

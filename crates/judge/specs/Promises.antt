@@ -17,8 +17,8 @@ use Rattle.spy.specs.declared.Answer.the-variants.{Written}
 use Rattle.trace.specs.Fault.{Span}
 use Rattle.judge.specs.Judged.{Judged}
 use Rattle.judge.specs.Faulted.{Faulted}
-use Rattle.judge.specs.declared.Verdict.{Verdict}
-use Rattle.judge.specs.declared.Verdict.the-variants.{Accepted}
+use Rattle.judge.specs.declared.reply.Verdict.{Verdict}
+use Rattle.judge.specs.declared.reply.Verdict.the-variants.{Accepted}
 
 -- one answer only: the reply and every lent byte
 abbrev pub OneVerdict : Type 0

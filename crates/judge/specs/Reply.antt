@@ -7,8 +7,8 @@ use lib.ListN.{length, set}
 use Rattle.trace.specs.File.{eventsOf}
 use Rattle.trace.specs.Rows.{choose}
 use Rattle.trace.specs.declared.Cause.the-variants.{ShortBuffer}
-use Rattle.judge.specs.declared.Verdict.{Verdict}
-use Rattle.judge.specs.declared.Verdict.the-variants.{Refused, Illegal, Accepted}
+use Rattle.judge.specs.declared.reply.Verdict.{Verdict}
+use Rattle.judge.specs.declared.reply.Verdict.the-variants.{Refused, Illegal, Accepted}
 use Rattle.judge.specs.Walk.{Walked, walk}
 use Rattle.judge.specs.Lowest.{ruleOf, exchangeOf}
 

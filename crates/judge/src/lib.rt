@@ -1,9 +1,68 @@
 // The judge: whether the fourteen rules generate a trace.
-use trace::Cause;
+mod fit;
+mod pace;
+pub mod reply;
 
-// Refused; or the length of the longest accepted beginning, short of all events or all of them.
-pub enum Verdict {
-    Refused(Cause),
-    Illegal(u16),
-    Accepted(u16),
+use reply::Verdict;
+use trace::Cause;
+use trace::EventNo;
+use trace::Reading;
+ghost use mathlib.Core.Path.{_≡_};
+ghost use Rattle.trace.specs.Refusal.{reading};
+ghost use Rattle.trace.specs.declared.Reading.the-variants.{Readable};
+ghost use Rattle.judge.specs.Reply.{verdictReadable, rulesReadable};
+ghost use Rattle.judge.specs.Judged.{Judged};
+ghost use Rattle.judge.specs.Faulted.{FaultPart};
+
+// The question, for a file that is readable.
+fn verdict_readable(file: &[u8], rules: &mut [u8]) -> Verdict
+    ensures { λ v. ⌜ v ≡ verdictReadable (now (file .entry)) (now (rules .entry)) ⌝ }
+    ensures { λ _. ⌜ now (rules .exit) ≡ rulesReadable (now (file .entry)) (now (rules .entry)) ⌝ }
+{
+    let events = trace::event_count(file);
+    if rules.len() < events as usize {
+        return Verdict::Refused(Cause::ShortBuffer);
+    }
+    pace::clear(rules, events);
+    let n = pace::walk_events(file, rules);
+    if n < events {
+        Verdict::Illegal(n)
+    } else {
+        Verdict::Accepted(n)
+    }
+}
+
+// The verdict question: a rule number for each event of the longest accepted beginning, and 0 for the others.
+pub fn verdict(file: &[u8], rules: &mut [u8]) -> Verdict
+    ensures { λ v. ⌜ Judged (now (file .entry)) (now (rules .entry)) v (now (rules .exit)) ⌝ }
+{
+    let reading = trace::read(file);
+    match reading {
+        Reading::Refused(cause) => Verdict::Refused(cause),
+        Reading::Readable => verdict_readable(file, rules),
+    }
+}
+
+// Of a file that is readable: the event after the longest accepted beginning.
+fn illegal_part(file: &[u8]) -> &[u8]
+    requires { ⌜ reading (now file) ≡ Readable ⌝ }
+    ensures { λ part. ⌜ FaultPart (file .entry) part ⌝ }
+{
+    let mut rules = [0u8; 512];
+    let n = pace::walk_events(file, &mut rules);
+    if n < trace::event_count(file) {
+        return trace::event_part(file, EventNo(n));
+    }
+    trace::no_part(file)
+}
+
+// The third question: the part of the file that is at fault, or no part.
+pub fn fault(file: &[u8]) -> &[u8]
+    ensures { λ part. ⌜ FaultPart (file .entry) part ⌝ }
+{
+    let reading = trace::read(file);
+    match reading {
+        Reading::Refused(cause) => trace::part_at_fault(file, cause),
+        Reading::Readable => illegal_part(file),
+    }
 }

@@ -1,2 +1,4 @@
 pub mod Finishes
 pub mod Accepts
+pub mod Branches
+pub mod Hashes

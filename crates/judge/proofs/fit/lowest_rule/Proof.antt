@@ -1,0 +1,20 @@
+-- `judge::fit::lowest_rule` meets its contract: a Says or a note.
+-- Assumes nothing.
+use denote.Ref.{now}
+use borrow.Author.Needs.{needs}
+use Rattle.judge.proofs.Paces.{rule-said, rule-noted}
+use Rattle.judge.proofs.fit.lowest_rule.Statement.{statement}
+use Rattle.judge.proofs.fit.lowest_rule.Tie as tie
+
+returns : tie.Need-returns
+returns c =
+    let a = c .before .before .before .args in
+    rule-said (now (a .file)) (now (a .used)) (now (a .known)) (a .e) (a .h) (c .before .if1 .taken) (c .lowest-said .ensures)
+
+returns-2 : tie.Need-returns-2
+returns-2 c =
+    let a = c .before .before .before .args in
+    rule-noted (now (a .file)) (now (a .used)) (now (a .known)) (a .e) (a .h) (c .before .if1 .left) (c .lowest-noted .ensures)
+
+pub lowest-rule-spec : {M : Type 1} → statement M
+lowest-rule-spec = tie.close (tie.spec (λ c κs. search needs) (λ c κs. search needs) returns returns-2)

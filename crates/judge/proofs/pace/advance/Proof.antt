@@ -1,0 +1,63 @@
+-- `judge::pace::advance` meets its contract: the tests that led to a return say which step it is.
+-- Assumes nothing.
+use mathlib.Core.Path.{refl}
+use denote.Ref.{now}
+use borrow.Author.Needs.{needs}
+use Rattle.judge.proofs.Paces.{goes-one, goes-two, goes-last, goes-none, before-next}
+use Rattle.judge.proofs.pace.advance.Statement.{statement}
+use Rattle.judge.proofs.pace.advance.Tie as tie
+
+returns : tie.Need-returns
+returns c =
+    let s = c .before .before .before .before .before .before .before .before .before .before .before .before .before .before .before in
+    goes-one (now (s .args .file)) (s .args .events) (s .args .i) (s .pre) (c .before .before .before .before .before .before .before .before .before .before .before .before .hear .ensures)
+    (c .before .before .before .before .before .before .before .before .before .lowest-rule .ensures) (now (s .args .rules)) (c .before .before .before .before .before .before .before .before .if1 .taken)
+    (c .before .before .before .before .before .before .put .ensures) (c .take-event .ensures)
+
+returns-2 : tie.Need-returns-2
+returns-2 c =
+    let s = c .before .before .before .before .before .before .before .before in
+    goes-last (now (s .args .file)) (s .args .events) (s .args .i) (s .pre) (c .before .before .before .before .before .hear .ensures)
+    (c .before .before .lowest-rule .ensures) (now (s .args .rules)) (c .before .if1 .left) (c .if2 .taken)
+
+take-event-requires-3 : tie.Need-take-event-requires-3
+take-event-requires-3 c κs = before-next _ _ (c .before .before .before .take-event2 .ensures)
+
+returns-3 : tie.Need-returns-3
+returns-3 c =
+    let s = c .before .before .before .before .before .before .before .before .before .before .before .before .before .before .before .before .before .before .before .before .before .before .before .before .before .before .before .before in
+    goes-two (now (s .args .file)) (s .args .events) (s .args .i) (s .pre) (c .before .before .before .before .before .before .before .before .before .before .before .before .before .before .before .before .before .before .before .before .before .before .before .before .before .hear .ensures)
+    (c .before .before .before .before .before .before .before .before .before .before .before .before .before .before .before .before .before .before .before .before .before .before .lowest-rule .ensures) (now (s .args .rules)) (c .before .before .before .before .before .before .before .before .before .before .before .before .before .before .before .before .before .before .before .before .before .if1 .left) refl (c .before .before .before .before .before .before .before .before .before .before .before .before .before .before .before .before .before .before .before .before .if2 .left)
+    (c .before .before .before .before .before .before .before .before .before .before .before .before .before .before .before .before .before .before .before .hear2 .ensures) (c .before .before .before .before .before .before .before .before .before .before .before .before .before .before .before .before .before .key-exchange .ensures) (c .before .before .before .before .before .before .before .before .before .before .before .before .before .before .before .before .if3 .taken)
+    (c .before .before .before .before .before .before .before .before .before .before .before .before .before .before .put2 .ensures) (c .before .before .before .before .before .before .before .before .before .before .put3 .ensures) (c .take-event3 .ensures)
+
+returns-4 : tie.Need-returns-4
+returns-4 c =
+    let s = c .before .before .before .before .before .before .before .before .before .before .before .before in
+    goes-none (now (s .args .file)) (s .args .events) (s .args .i) (s .pre) (c .before .before .before .before .before .before .before .before .before .hear .ensures)
+    (c .before .before .before .before .before .before .lowest-rule .ensures) (now (s .args .rules)) (c .before .before .before .before .before .if1 .left) refl (c .before .before .before .before .if2 .left)
+    (c .before .before .before .hear2 .ensures) (c .before .key-exchange .ensures) (c .if3 .left)
+
+pub advance-spec : {M : Type 1} → statement M
+advance-spec =
+    tie.close
+    (tie.spec
+    (λ c κs. search needs)
+    (λ c κs. search needs)
+    (λ c κs. search needs)
+    (λ c κs. search needs)
+    (λ c. search needs)
+    returns
+    (λ c. search needs)
+    returns-2
+    (λ c. search needs)
+    (λ c κs. search needs)
+    (λ c κs. search needs)
+    (λ c κs. search needs)
+    (λ c. search needs)
+    (λ c κs. search needs)
+    (λ c κs. search needs)
+    take-event-requires-3
+    (λ c. search needs)
+    returns-3
+    returns-4)

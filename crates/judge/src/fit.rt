@@ -1,0 +1,90 @@
+// The lowest rule that fits an event, by what the event is; 0 for none.
+use earlier::Heard;
+ghost use mathlib.Core.Path.{_≡_};
+ghost use Rattle.judge.specs.Lowest.{lowestNoted, lowestCrypt, lowestPlain, lowestSaid, lowestRule};
+
+// A note: 2, 10 or 11.
+fn lowest_noted(file: &[u8], known: &[u8; 1024], e: u16, h: Heard) -> u8
+    ensures { λ k. ⌜ k ≡ lowestNoted (now (file .entry)) (now (known .entry)) e h ⌝ }
+{
+    let two = rules::spy_keys(file, known, h);
+    if two {
+        return 2;
+    }
+    let ten = sessions::client_accepts(file, e, h);
+    if ten {
+        return 10;
+    }
+    let eleven = sessions::server_accepts(file, e, h);
+    if eleven { 11 } else { 0 }
+}
+
+// A Says of a Crypt: 5, 7, 8, 9, 12 or 13.
+fn lowest_crypt(file: &[u8], e: u16, h: Heard) -> u8
+    ensures { λ k. ⌜ k ≡ lowestCrypt (now (file .entry)) e h ⌝ }
+{
+    let five = rules::certificate(file, h);
+    if five {
+        return 5;
+    }
+    let seven = rules::cert_verify(file, e, h);
+    if seven {
+        return 7;
+    }
+    let eight = sessions::client_finished(file, e, h);
+    if eight {
+        return 8;
+    }
+    let nine = sessions::server_finished(file, e, h);
+    if nine {
+        return 9;
+    }
+    let twelve = sessions::client_resume(file, e, h);
+    if twelve {
+        return 12;
+    }
+    let thirteen = sessions::server_resume(file, e, h);
+    if thirteen { 13 } else { 0 }
+}
+
+// A Says of another message: 3, 4 or 14.
+fn lowest_plain(file: &[u8], used: &[u8; 1024], e: u16, h: Heard) -> u8
+    ensures { λ k. ⌜ k ≡ lowestPlain (now (file .entry)) (now (used .entry)) e h ⌝ }
+{
+    let three = rules::client_hello(file, used, h);
+    if three {
+        return 3;
+    }
+    let four = rules::server_hello(file, used, e, h);
+    if four {
+        return 4;
+    }
+    let fourteen = rules::oops(file, e, h);
+    if fourteen { 14 } else { 0 }
+}
+
+// A Says: 1, or by whether its message is a Crypt.
+fn lowest_said(file: &[u8], used: &[u8; 1024], known: &[u8; 1024], e: u16, h: Heard) -> u8
+    ensures { λ k. ⌜ k ≡ lowestSaid (now (file .entry)) (now (used .entry)) (now (known .entry)) e h ⌝ }
+{
+    let one = rules::fake(file, known, h);
+    if one {
+        return 1;
+    }
+    let sealed = forms::leaves::crypt_of(file, h.row);
+    if sealed.is {
+        lowest_crypt(file, e, h)
+    } else {
+        lowest_plain(file, used, e, h)
+    }
+}
+
+pub fn lowest_rule(file: &[u8], used: &[u8; 1024], known: &[u8; 1024], e: u16, h: Heard) -> u8
+    ensures { λ k. ⌜ k ≡ lowestRule (now (file .entry)) (now (used .entry)) (now (known .entry)) e h ⌝ }
+{
+    if h.says {
+        lowest_said(file, used, known, e, h)
+    } else {
+        lowest_noted(file, known, e, h)
+    }
+}

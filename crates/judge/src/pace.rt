@@ -1,0 +1,106 @@
+// The walk over the events: the lowest rule that fits, else rule 6 on two events, else the end.
+use super::fit::lowest_rule;
+use trace::EventNo;
+ghost use mathlib.Core.Path.{_≡_};
+ghost use Prim.Native.Nat.{suc, _+_};
+ghost use lib.ListN.{set};
+ghost use Rattle.judge.specs.Lowest.{ruleOf, exchangeOf};
+ghost use Rattle.judge.specs.Pace.{pace, paced, Before};
+ghost use Rattle.judge.specs.Reply.{cleared, walkFile};
+
+const SIX: u8 = 6;
+
+// A place past the end changes nothing.
+fn put(rules: &mut [u8], at: usize, rule: u8)
+    ensures { λ _. ⌜ now (rules .exit) ≡ set (now (rules .entry)) at rule ⌝ }
+{
+    if at < rules.len() {
+        rules[at] = rule;
+    }
+}
+
+// The first n bytes become 0.
+pub fn clear(rules: &mut [u8], n: u16)
+    ensures { λ _. ⌜ now (rules .exit) ≡ cleared n (now (rules .entry)) ⌝ }
+{
+    let mut i: u16 = 0;
+    while i < n {
+        put(rules, i as usize, 0);
+        i += 1;
+    }
+}
+
+// An event is added: the rows of its message are used, and the spy sees it.
+fn take_event(
+    file: &[u8],
+    used: &mut [u8; 1024],
+    rows: &mut [u8; 1024],
+    keys: &mut [u8; 128],
+    e: u16,
+)
+    requires { ⌜ Before (now file) e (now used) (now rows) (now keys) ⌝ }
+    ensures { λ _. ⌜ Before (now (file .entry)) (suc e) (now (used .exit)) (now (rows .exit)) (now (keys .exit)) ⌝ }
+{
+    used::use_event(file, used, EventNo(e));
+    spy::closure::see_event(file, rows, keys, EventNo(e));
+}
+
+// One step of the walk from event i; tells how many events it takes.
+fn advance(
+    file: &[u8],
+    rules: &mut [u8],
+    used: &mut [u8; 1024],
+    rows: &mut [u8; 1024],
+    keys: &mut [u8; 128],
+    i: u16,
+    events: u16,
+) -> u16
+    requires { ⌜ Before (now file) i (now used) (now rows) (now keys) ⌝ }
+    ensures { λ n. ⌜ n ≡ pace (ruleOf (now (file .entry))) (exchangeOf (now (file .entry))) events i ⌝ }
+    ensures { λ _. ⌜ now (rules .exit) ≡
+        paced (ruleOf (now (file .entry))) (exchangeOf (now (file .entry))) events i (now (rules .entry)) ⌝ }
+    ensures { λ n. ⌜ Before (now (file .entry)) (i + n) (now (used .exit)) (now (rows .exit)) (now (keys .exit)) ⌝ }
+{
+    let note = earlier::hear(file, i);
+    let rule = lowest_rule(file, used, rows, i, note);
+    if 0 < rule {
+        put(rules, i as usize, rule);
+        take_event(file, used, rows, keys, i);
+        return 1;
+    }
+    if (events as usize) <= (i as usize) + 1 {
+        return 0;
+    }
+    let next = i + 1;
+    let said = earlier::hear(file, next);
+    let six = rules::key_exchange(file, used, i, note, said);
+    if six {
+        put(rules, i as usize, SIX);
+        put(rules, next as usize, SIX);
+        take_event(file, used, rows, keys, i);
+        take_event(file, used, rows, keys, next);
+        return 2;
+    }
+    0
+}
+
+// The length of the longest accepted beginning; its rule numbers are written.
+pub fn walk_events(file: &[u8], rules: &mut [u8]) -> u16
+    ensures { λ n. ⌜ n ≡ walkFile (now (file .entry)) (now (rules .entry)) .length ⌝ }
+    ensures { λ _. ⌜ now (rules .exit) ≡ walkFile (now (file .entry)) (now (rules .entry)) .bytes ⌝ }
+{
+    let events = trace::event_count(file);
+    let mut used = [0u8; 1024];
+    let mut rows = [0u8; 1024];
+    let mut keys = [0u8; 128];
+    spy::closure::start(file, &mut rows, &mut keys);
+    let mut i: u16 = 0;
+    while i < events {
+        let n = advance(file, rules, &mut used, &mut rows, &mut keys, i, events);
+        if n == 0 {
+            return i;
+        }
+        i += n;
+    }
+    i
+}
