@@ -7,7 +7,7 @@ use native.Mathlib.Omega.{arith}
 use lib.ListN.{length}
 use denote.Ref.{RefT, now}
 use Rattle.trace.specs.File.{eventsOf}
-use Rattle.trace.specs.Fault.{Span, nothing, eventSpan, faultOf, Part}
+use Rattle.trace.specs.Fault.{nothing, eventSpan, faultOf, Part}
 use Rattle.trace.specs.Refusal.{reading}
 use Rattle.trace.specs.declared.Cause.{Cause}
 use Rattle.trace.specs.declared.Reading as declared

@@ -12,7 +12,7 @@ use borrow.Author.Tests.{lt-ltb, le-ltb, ltb-true}
 use Rattle.trace.specs.Rows.{choose}
 use Rattle.trace.specs.File.{rowsOf, eventsOf}
 use Rattle.trace.specs.Events.{eventAt}
-use Rattle.spy.specs.Closure.{seeEvent, startKeys, startRows, zeros, knownAfter}
+use Rattle.spy.specs.Closure.{seeEvent, startKeys, startRows, zeros}
 use Rattle.spy.proofs.Folds.{known-start, known-more}
 use Rattle.used.specs.Marking.{useEvent, usedAfter}
 use Rattle.earlier.specs.declared.Heard.{Heard}

@@ -67,12 +67,12 @@ fn lowest_plain(file: &[u8], used: &[u8; 1024], e: u16, h: Heard) -> u8
 fn lowest_said(file: &[u8], used: &[u8; 1024], known: &[u8; 1024], e: u16, h: Heard) -> u8
     ensures { λ k. ⌜ k ≡ lowestSaid (now (file .entry)) (now (used .entry)) (now (known .entry)) e h ⌝ }
 {
+    let sealed = forms::leaves::crypt_of(file, h.row).is;
     let one = rules::fake(file, known, h);
     if one {
         return 1;
     }
-    let sealed = forms::leaves::crypt_of(file, h.row);
-    if sealed.is {
+    if sealed {
         lowest_crypt(file, e, h)
     } else {
         lowest_plain(file, used, e, h)

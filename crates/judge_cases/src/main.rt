@@ -131,7 +131,7 @@ fn put(file: &mut [u8], at: usize, value: usize) {
 }
 
 // Event e of the file, by its number in the table.
-fn put_event(file: &mut [u8; 256], e: usize, event: usize) {
+fn put_event(file: &mut [u8], e: usize, event: usize) {
     if event < EVENTS.len() {
         if e < 8 {
             let parts = EVENTS[event];
@@ -164,17 +164,21 @@ fn ask(case: usize, file: &[u8], size: usize, lent: &mut [u8], room: usize) {
     io::write_all(STDOUT_FILENO, b"\n");
 }
 
+fn put_events(file: &mut [u8], c: [usize; 15]) {
+    for e in 0..7 {
+        put_event(file, e, c[8 + e]);
+    }
+}
+
+fn put_header(file: &mut [u8], set: usize, events: usize) {
+    put(file, 4, set);
+    put(file, 18, events);
+}
+
 fn ask_case(case: usize, c: [usize; 15]) {
     let mut file = cases::sample();
-    put_event(&mut file, 0, c[8]);
-    put_event(&mut file, 1, c[9]);
-    put_event(&mut file, 2, c[10]);
-    put_event(&mut file, 3, c[11]);
-    put_event(&mut file, 4, c[12]);
-    put_event(&mut file, 5, c[13]);
-    put_event(&mut file, 6, c[14]);
-    put(&mut file, 4, c[1]);
-    put(&mut file, 18, c[2]);
+    put_events(&mut file, c);
+    put_header(&mut file, c[1], c[2]);
     put(&mut file, c[4], c[5]);
     put(&mut file, c[6], c[7]);
     let mut lent = [FRESH; 8];

@@ -1,10 +1,6 @@
 -- `judge::verdict_readable` meets its contract: the tests that led to a return say which case holds.
 -- Assumes nothing.
-use mathlib.Core.Path.{_≡_, sym, _∙_, ap}
-use denote.Ref.{now}
-use borrow.Author.Tests.{lt-ltb, le-ltb}
 use borrow.Author.Needs.{needs}
-use Rattle.judge.specs.Reply.{rulesReadable}
 use Rattle.judge.proofs.Paces.{short-reply, illegal-reply, accepted-reply}
 use Rattle.judge.proofs.verdict_readable.Statement.{statement}
 use Rattle.judge.proofs.verdict_readable.Tie as tie
