@@ -1,0 +1,5 @@
+pub mod Pages
+pub mod Numbers
+pub mod Lines
+pub mod Fits
+pub mod One

@@ -1,0 +1,3 @@
+pub mod Page
+pub mod Text
+pub mod Promises
