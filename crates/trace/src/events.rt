@@ -19,11 +19,22 @@ pub struct Parts {
     pub rest: u16,
 }
 
+// One test of the bound for the eight bytes; an event past the end of the file has zeros there.
 pub fn parts_at(file: &[u8], e: u16) -> Parts
     ensures { λ p. ⌜ p ≡ partsAt (now (file .entry)) e ⌝ }
 {
     let rows = header_of(file).rows;
     let at = ROWS_AT + ITEM * (rows as usize) + ITEM * (e as usize);
+    if at + ITEM <= file.len() {
+        return Parts {
+            kind: bytes::byte_in(file, at),
+            sender: bytes::byte_in(file, at + 1),
+            receiver: bytes::byte_in(file, at + 2),
+            zero: bytes::byte_in(file, at + 3),
+            row: bytes::word_in(file, at + 4),
+            rest: bytes::word_in(file, at + 6),
+        };
+    }
     Parts {
         kind: bytes::byte_at(file, at),
         sender: bytes::byte_at(file, at + 1),

@@ -20,10 +20,20 @@ pub struct Fields {
     pub third: u16,
 }
 
+// One test of the bound for the eight bytes; a row past the end of the file has zeros there.
 pub fn fields_at(file: &[u8], r: u16) -> Fields
     ensures { λ f. ⌜ f ≡ fieldsAt (now (file .entry)) r ⌝ }
 {
     let at = ROWS_AT + ITEM * (r as usize);
+    if at + ITEM <= file.len() {
+        return Fields {
+            kind: bytes::byte_in(file, at),
+            role: bytes::byte_in(file, at + 1),
+            first: bytes::word_in(file, at + 2),
+            second: bytes::word_in(file, at + 4),
+            third: bytes::word_in(file, at + 6),
+        };
+    }
     Fields {
         kind: bytes::byte_at(file, at),
         role: bytes::byte_at(file, at + 1),
