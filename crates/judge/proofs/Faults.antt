@@ -4,14 +4,13 @@ use Prim.Native.Nat.{ℕ, _+_, _*_, _<_, _≤_}
 use mathlib.Core.List.{List}
 use mathlib.Core.Path.{_≡_, refl, ap}
 use native.Mathlib.Omega.{arith}
-use native.Mathlib.Decide.{decLt}
-use lib.Dec.{ltb}
 use lib.ListN.{length}
-use borrow.Author.Tests.{lt-ltb, le-ltb, le-leb}
+use denote.Ref.{RefT, now}
+use borrow.Author.Tests.{le-leb}
 use Rattle.trace.specs.File.{rowsAt, headerOf, rowsOf, eventsOf}
-use Rattle.trace.specs.Rows.{choose}
 use Rattle.trace.specs.Events.{eventsAt}
-use Rattle.trace.specs.Fault.{Span, nothing, eventSpan, faultOf}
+use Rattle.trace.specs.declared.Span.{Span}
+use Rattle.trace.specs.Fault.{nothing, eventSpan, faultOf, within, Inside, Part}
 use Rattle.trace.specs.Refusal as table
 use Rattle.trace.specs.Refusal.{reading, Told, contents}
 use Rattle.trace.specs.declared.Cause.{Cause}
@@ -21,9 +20,11 @@ use Rattle.trace.specs.declared.Reading.the-variants.{Refused, Readable}
 use Rattle.trace.proofs.Both.{refuted}
 use Rattle.trace.proofs.Refusal.{whole-length}
 use Rattle.trace.proofs.Told.{refusals}
+use Rattle.trace.proofs.Fault.{inside-within, nothing-inside, item-inside, faults-inside}
+use Rattle.trace.proofs.Promised.{promises}
 use Rattle.judge.specs.Reply.{walkFile}
 use Rattle.judge.specs.Promises.{OneFault}
-use Rattle.judge.specs.Faulted.{Faulted, refused, illegal, accepted}
+use Rattle.judge.specs.Faulted.{Faulted, refused, illegal, accepted, FaultPart}
 use Rattle.judge.proofs.Walk.{Ended}
 use Rattle.judge.proofs.Judges.{walk-ended}
 
@@ -49,21 +50,43 @@ module _ (file : List ℕ) (r : reading file ≡ Readable) where
     ended : Ended file 0 bytes (walkFile file bytes)
     ended = walk-ended file r bytes room
 
-    pub faulted-event : n < eventsOf file → Faulted file (eventSpan file n)
+    faulted-event : n < eventsOf file → Faulted file (eventSpan file n)
     faulted-event l = rw (event-span n l) (illegal told (record { accepted = ended .accepted; longest = ended .longest }) l)
 
-    pub faulted-none : eventsOf file ≤ n → Faulted file nothing
+    faulted-none : eventsOf file ≤ n → Faulted file nothing
     faulted-none l =
         let e : n ≡ eventsOf file = omega (arith, ended .within) in
         accepted told (rw e at (ended .accepted))
 
-    -- both, as the code tests them
-    pub faulted-readable : Faulted file (choose (ltb n (eventsOf file)) (eventSpan file n) nothing)
-    faulted-readable = go (decLt n (eventsOf file))
-      where
-        go : Dec (n < eventsOf file) → Faulted file (choose (ltb n (eventsOf file)) (eventSpan file n) nothing)
-        go (yes l) = rw (lt-ltb n (eventsOf file) l) (faulted-event l)
-        go (no l) = rw (le-ltb n (eventsOf file) (omega arith)) (faulted-none (omega arith))
+  -- as the code has them: at most 512 events, so a buffer of 512 bytes has room for all
+  module _ (bytes : List ℕ) (room : 512 ≤ length bytes) where
+    enough : eventsOf file ≤ length bytes
+    enough =
+        let few = promises file r .few-events in
+        omega arith
+
+    pub fault-event : {N k : ℕ} {span : Span} → N ≡ eventsOf file → k ≡ walkFile file bytes .length → k < N →
+        span ≡ eventSpan file k → Faulted file span
+    fault-event en ew l es = rw (es, ew) (faulted-event bytes enough (omega arith))
+
+    pub fault-none : {N k : ℕ} {span : Span} → N ≡ eventsOf file → k ≡ walkFile file bytes .length → N ≤ k →
+        span ≡ nothing → Faulted file span
+    fault-none en ew l es = rw es (faulted-none bytes enough (omega arith))
+
+-- it is there: what is lent back is the part at fault
+told-inside : (file : List ℕ) (n : ℕ) → Told file Readable → n < eventsOf file → Inside file (record { start = eventsAt file + 8 * n; size = 8 })
+told-inside file n (table.readable none) l =
+    let right = refuted _ (λ e. none WrongContents (contents e)) in
+    item-inside file right (eventsAt file + 8 * n) (omega (arith, whole-length (headerOf file) (length file) right))
+
+pub faulted-inside : (file : List ℕ) {span : Span} → Faulted file span → Inside file span
+faulted-inside file (refused {c = c} t) = faults-inside file c t
+faulted-inside file (illegal {n = n} t g l) = told-inside file n t l
+faulted-inside file (accepted t g) = nothing-inside file
+
+pub fault-part : (file : RefT (List ℕ)) {span : Span} {part : RefT (List ℕ)} → Faulted (now file) span →
+    Part file (within (now file) span) part → FaultPart file part
+fault-part file {span} f p = record { span = span; faulted = f; is = rw (inside-within (now file) span (faulted-inside (now file) f)) at p }
 
 -- one answer only
 abbrev spanOf : List ℕ → Reading → Span

@@ -5,7 +5,6 @@ pub mod Right
 pub mod Least
 pub mod Judges
 pub mod Faults
-pub mod Blame
 pub mod Paces
 pub mod Cases
 pub mod Idle

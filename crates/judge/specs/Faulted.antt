@@ -4,7 +4,8 @@ use mathlib.Core.List.{List}
 use denote.Ref.{RefT, now}
 use Rattle.trace.specs.File.{eventsOf}
 use Rattle.trace.specs.Events.{eventsAt}
-use Rattle.trace.specs.Fault.{Span, nothing, faultOf, Part}
+use Rattle.trace.specs.declared.Span.{Span}
+use Rattle.trace.specs.Fault.{nothing, faultOf, Part}
 use Rattle.trace.specs.Refusal.{Told}
 use Rattle.trace.specs.declared.Cause.{Cause}
 use Rattle.trace.specs.declared.Reading.the-variants.{Refused, Readable}

@@ -14,7 +14,7 @@ use Rattle.trace.specs.declared.Row.the-variants.{Agent, Nonce, Prf, Pair}
 use Rattle.trace.specs.declared.Event.the-variants.{Notes}
 use Rattle.spy.specs.Knowledge.{Knows}
 use Rattle.spy.specs.declared.Answer.the-variants.{Written}
-use Rattle.trace.specs.Fault.{Span}
+use Rattle.trace.specs.declared.Span.{Span}
 use Rattle.judge.specs.Judged.{Judged}
 use Rattle.judge.specs.Faulted.{Faulted}
 use Rattle.judge.specs.declared.reply.Verdict.{Verdict}

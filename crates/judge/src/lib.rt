@@ -7,12 +7,13 @@ use reply::Verdict;
 use trace::Cause;
 use trace::EventNo;
 use trace::Reading;
+use trace::Span;
 ghost use mathlib.Core.Path.{_≡_};
 ghost use Rattle.trace.specs.Refusal.{reading};
 ghost use Rattle.trace.specs.declared.Reading.the-variants.{Readable};
 ghost use Rattle.judge.specs.Reply.{verdictReadable, rulesReadable};
 ghost use Rattle.judge.specs.Judged.{Judged};
-ghost use Rattle.judge.specs.Faulted.{FaultPart};
+ghost use Rattle.judge.specs.Faulted.{Faulted, FaultPart};
 
 // The question, for a file that is readable.
 fn verdict_readable(file: &[u8], rules: &mut [u8]) -> Verdict
@@ -44,25 +45,32 @@ pub fn verdict(file: &[u8], rules: &mut [u8]) -> Verdict
 }
 
 // Of a file that is readable: the event after the longest accepted beginning.
-fn illegal_part(file: &[u8]) -> &[u8]
+fn illegal_span(file: &[u8]) -> Span
     requires { ⌜ reading (now file) ≡ Readable ⌝ }
-    ensures { λ part. ⌜ FaultPart (file .entry) part ⌝ }
+    ensures { λ span. ⌜ Faulted (now (file .entry)) span ⌝ }
 {
     let mut rules = [0u8; 512];
     let n = pace::walk_events(file, &mut rules);
     if n < trace::event_count(file) {
-        return trace::event_part(file, EventNo(n));
+        return trace::event_span(file, EventNo(n));
     }
-    trace::no_part(file)
+    trace::no_span()
+}
+
+// Where the part at fault lies, or the empty part at byte 0.
+pub fn fault_span(file: &[u8]) -> Span
+    ensures { λ span. ⌜ Faulted (now (file .entry)) span ⌝ }
+{
+    let reading = trace::read(file);
+    match reading {
+        Reading::Refused(cause) => trace::span_at_fault(file, cause),
+        Reading::Readable => illegal_span(file),
+    }
 }
 
 // The third question: the part of the file that is at fault, or no part.
 pub fn fault(file: &[u8]) -> &[u8]
     ensures { λ part. ⌜ FaultPart (file .entry) part ⌝ }
 {
-    let reading = trace::read(file);
-    match reading {
-        Reading::Refused(cause) => trace::part_at_fault(file, cause),
-        Reading::Readable => illegal_part(file),
-    }
+    trace::part(file, fault_span(file))
 }

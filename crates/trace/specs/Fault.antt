@@ -8,15 +8,11 @@ use denote.Ref.{RefT, now, ptr}
 use Rattle.trace.specs.File.{rowsAt}
 use Rattle.trace.specs.Rows.{choose}
 use Rattle.trace.specs.Events.{eventsAt}
-use Rattle.trace.specs.Refusal.{numberOf, reading}
+use Rattle.trace.specs.Refusal.{numberOf, reading, Told}
+use Rattle.trace.specs.declared.Span.{Span}
 use Rattle.trace.specs.declared.Reading.the-variants.{Refused}
 use Rattle.trace.specs.declared.Cause.{Cause}
 use Rattle.trace.specs.declared.Cause.the-variants.{TooShort, WrongVersion, WrongSet, WrongContents, BadRow, RepeatedRow, BadEvent, ShortBuffer, TooManyEvents}
-
--- where a part starts and how long it is
-pub record Span : Type 0 where
-  pub start : ℕ
-  pub size : ℕ
 
 abbrev pub nothing : Span
 nothing = record { start = 0; size = 0 }
@@ -41,10 +37,26 @@ faultOf file (BadEvent e) = eventSpan file (e .0)
 faultOf file ShortBuffer = nothing
 faultOf file TooManyEvents = nothing
 
+-- the span, if the file is long enough for it
+abbrev pub within : List ℕ → Span → Span
+within file span = choose (leb (span .start + span .size) (length file)) span nothing
+
 -- a part of a file: what it holds, and where it stands
 pub record Part (file : RefT (List ℕ)) (span : Span) (part : RefT (List ℕ)) : Type 0 where
   pub holds : now part ≡ take (span .size) (drop (span .start) (now file))
   pub stands : ptr part ≡ (ptr file .0, span .start + ptr file .1)
+
+-- a span that the file has, below the end of the longest file that is read
+abbrev pub longestFile : ℕ
+longestFile = rowsAt + 8 * 1024 + 8 * 512
+
+pub record Inside (file : List ℕ) (span : Span) : Type 0 where
+  pub there : span .start + span .size ≤ length file
+  pub low : span .start + span .size ≤ longestFile
+
+-- every refusal's span is one
+abbrev pub FaultsInside : Type 0
+FaultsInside = (file : List ℕ) (c : Cause) → Told file (Refused c) → Inside file (faultOf file c)
 
 -- refusals 5 to 7 name eight bytes of the file
 abbrev pub FaultsFit : Type 0

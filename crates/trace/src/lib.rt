@@ -12,7 +12,7 @@ ghost use Prim.Native.Nat.{_≤_};
 ghost use Rattle.trace.specs.File.{rowsOf, eventsOf, compromisedIn};
 ghost use Rattle.trace.specs.Rows.{rowAt};
 ghost use Rattle.trace.specs.Events.{eventAt};
-ghost use Rattle.trace.specs.Fault.{Part, nothing, eventSpan, faultOf};
+ghost use Rattle.trace.specs.Fault.{Part, nothing, eventSpan, faultOf, within};
 ghost use Rattle.trace.specs.Refusal.{numberOf, placeOf, readItems, reading};
 
 // Numbers of rows, events and agents are kept apart, and so are the values of Numbers and Nonces.
@@ -66,6 +66,12 @@ pub enum Cause {
 pub enum Reading {
     Refused(Cause),
     Readable,
+}
+
+// Where a part of the file starts, and how long it is.
+pub struct Span {
+    pub start: usize,
+    pub size: usize,
 }
 
 // Document 01's number and place of a cause.
@@ -176,32 +182,45 @@ pub fn event_at(file: &[u8], e: EventNo) -> Event
 }
 
 // The empty part that starts at byte 0.
-pub fn no_part(file: &[u8]) -> &[u8]
-    ensures { λ part. ⌜ Part (file .entry) nothing part ⌝ }
+pub fn no_span() -> Span
+    ensures { λ span. ⌜ span ≡ nothing ⌝ }
 {
-    parts::empty_part(file)
+    parts::no_span()
 }
 
-// The eight bytes of an event, or no part where the file is too short for it.
-pub fn event_part(file: &[u8], e: EventNo) -> &[u8]
-    ensures { λ part. ⌜ Part (file .entry) (eventSpan (now (file .entry)) (e .0)) part ⌝ }
+// The eight bytes of an event, or the empty part where the file is too short for it.
+pub fn event_span(file: &[u8], e: EventNo) -> Span
+    ensures { λ span. ⌜ span ≡ eventSpan (now (file .entry)) (e .0) ⌝ }
 {
-    parts::event_part(file, e.0)
+    parts::event_span(file, e.0)
 }
 
-// The eight bytes that a refusal names, or no part.
-pub fn part_at_fault(file: &[u8], cause: Cause) -> &[u8]
-    ensures { λ part. ⌜ Part (file .entry) (faultOf (now (file .entry)) cause) part ⌝ }
+// The eight bytes that a refusal names, or the empty part.
+pub fn span_at_fault(file: &[u8], cause: Cause) -> Span
+    ensures { λ span. ⌜ span ≡ faultOf (now (file .entry)) cause ⌝ }
 {
     match cause {
-        Cause::BadRow(r) => parts::row_part(file, r.0),
-        Cause::RepeatedRow(r) => parts::row_part(file, r.0),
-        Cause::BadEvent(e) => parts::event_part(file, e.0),
-        Cause::TooShort => parts::empty_part(file),
-        Cause::WrongVersion => parts::empty_part(file),
-        Cause::WrongSet => parts::empty_part(file),
-        Cause::WrongContents => parts::empty_part(file),
-        Cause::ShortBuffer => parts::empty_part(file),
-        Cause::TooManyEvents => parts::empty_part(file),
+        Cause::BadRow(r) => parts::row_span(file, r.0),
+        Cause::RepeatedRow(r) => parts::row_span(file, r.0),
+        Cause::BadEvent(e) => parts::event_span(file, e.0),
+        Cause::TooShort => parts::no_span(),
+        Cause::WrongVersion => parts::no_span(),
+        Cause::WrongSet => parts::no_span(),
+        Cause::WrongContents => parts::no_span(),
+        Cause::ShortBuffer => parts::no_span(),
+        Cause::TooManyEvents => parts::no_span(),
     }
+}
+
+// The part of the file that lies there, or the empty part where the file ends before it does.
+pub fn part(file: &[u8], span: Span) -> &[u8]
+    ensures { λ part. ⌜ Part (file .entry) (within (now (file .entry)) span) part ⌝ }
+{
+    let there = parts::ends_within(span, file.len());
+    if there {
+        let start = span.start;
+        let end = start + span.size;
+        return &file[start..end];
+    }
+    &file[0..0]
 }

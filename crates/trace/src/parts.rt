@@ -1,36 +1,51 @@
-// Parts of the lent file: the eight bytes of a row or an event.
+// Where parts of the lent file lie: the eight bytes of a row or an event.
+use super::Span;
 use super::header::ITEM;
 use super::header::ROWS_AT;
 use super::header::header_of;
-ghost use Prim.Native.Nat.{_<_};
-ghost use Rattle.trace.specs.Fault.{Part, nothing, eightAt, rowSpan, eventSpan};
+ghost use Prim.Native.Nat.{_+_, _<_};
+ghost use mathlib.Core.Path.{_≡_};
+ghost use lib.Dec.{leb};
+ghost use Rattle.trace.specs.Fault.{nothing, eightAt, rowSpan, eventSpan};
 
-pub fn empty_part(file: &[u8]) -> &[u8]
-    ensures { λ part. ⌜ Part (file .entry) nothing part ⌝ }
+pub fn no_span() -> Span
+    ensures { λ s. ⌜ s ≡ nothing ⌝ }
 {
-    &file[0..0]
+    Span { start: 0, size: 0 }
 }
 
-fn eight_at(file: &[u8], at: usize) -> &[u8]
+fn eight_at(file: &[u8], at: usize) -> Span
     requires { ⌜ at < 2000000 ⌝ }
-    ensures { λ part. ⌜ Part (file .entry) (eightAt (now (file .entry)) at) part ⌝ }
+    ensures { λ s. ⌜ s ≡ eightAt (now (file .entry)) at ⌝ }
 {
-    let end = at + ITEM;
-    if end <= file.len() {
-        return &file[at..end];
+    if at + ITEM <= file.len() {
+        return Span {
+            start: at,
+            size: ITEM,
+        };
     }
-    empty_part(file)
+    no_span()
 }
 
-pub fn row_part(file: &[u8], r: u16) -> &[u8]
-    ensures { λ part. ⌜ Part (file .entry) (rowSpan (now (file .entry)) r) part ⌝ }
+pub fn row_span(file: &[u8], r: u16) -> Span
+    ensures { λ s. ⌜ s ≡ rowSpan (now (file .entry)) r ⌝ }
 {
     eight_at(file, ROWS_AT + ITEM * (r as usize))
 }
 
-pub fn event_part(file: &[u8], e: u16) -> &[u8]
-    ensures { λ part. ⌜ Part (file .entry) (eventSpan (now (file .entry)) e) part ⌝ }
+pub fn event_span(file: &[u8], e: u16) -> Span
+    ensures { λ s. ⌜ s ≡ eventSpan (now (file .entry)) e ⌝ }
 {
     let rows = header_of(file).rows;
     eight_at(file, ROWS_AT + ITEM * (rows as usize) + ITEM * (e as usize))
+}
+
+// Whether a file of len bytes is long enough; the sum of start and size could wrap.
+pub fn ends_within(span: Span, len: usize) -> bool
+    ensures { λ b. ⌜ b ≡ leb (span .start + span .size) len ⌝ }
+{
+    if len < span.start {
+        return false;
+    }
+    span.size <= len - span.start
 }

@@ -208,7 +208,7 @@ fn print_refusal(file: &[u8], cause: Cause) {
     io::write_all(STDOUT_FILENO, b" ");
     print_number(trace::place(cause));
     io::write_all(STDOUT_FILENO, b":");
-    print_part(trace::part_at_fault(file, cause));
+    print_part(trace::part(file, trace::span_at_fault(file, cause)));
 }
 
 fn run(file: &[u8], size: u16) {
