@@ -15,7 +15,7 @@ static void print_bytes(const uint8_t *bytes, size_t count)
 
 static void print_refusal(uint32_t reply)
 {
-    printf("refused %u %u\n", (unsigned)(reply >> 16 & 0xff), (unsigned)(reply & 0xffff));
+    printf("refused %u %u\n", (unsigned)MZ_CAUSE(reply), (unsigned)MZ_PLACE(reply));
 }
 
 static void show(const uint8_t *file, size_t size)
@@ -23,21 +23,21 @@ static void show(const uint8_t *file, size_t size)
     uint8_t rules[MOST_EVENTS] = {0};
     uint8_t marks[MOST_ROWS] = {0};
     uint32_t verdict = mz_verdict(file, size, rules, sizeof rules);
-    if (verdict & MZ_REFUSED) {
+    if (MZ_KIND(verdict) == MZ_REFUSED) {
         print_refusal(verdict);
     } else {
         size_t rows = file[14] | file[15] << 8;
         size_t events = file[18] | file[19] << 8;
-        printf("%s %u:", verdict & MZ_ILLEGAL ? "illegal" : "accepted", (unsigned)(verdict & 0xffff));
+        printf("%s %u:", MZ_KIND(verdict) == MZ_ILLEGAL ? "illegal" : "accepted", (unsigned)MZ_LENGTH(verdict));
         print_bytes(rules, events);
         uint32_t known = mz_knowledge(file, size, events, marks, sizeof marks);
-        if (known & MZ_REFUSED)
+        if (MZ_KIND(known) == MZ_REFUSED)
             print_refusal(known);
         printf("known:");
         print_bytes(marks, rows);
     }
     uint32_t fault = mz_fault(file, size);
-    printf("fault: %u bytes at %u\n", (unsigned)(fault >> 16), (unsigned)(fault & 0xffff));
+    printf("fault: %u bytes at %u\n", (unsigned)MZ_SIZE(fault), (unsigned)MZ_START(fault));
 }
 
 int main(int count, char **names)

@@ -6,13 +6,16 @@ use mathlib.Core.List.{List}
 use mathlib.Core.Logic.{⊎-elim}
 use mathlib.Core.Path.{_≡_, refl, sym, _∙_}
 use native.Mathlib.Omega.{arith}
+use native.Mathlib.Decide.{decLt}
 use lib.Dec.{ltb, leb}
 use borrow.Author.Tests.{ltb-true, lt-ltb, le-ltb, le-leb, lt-leb}
 use lib.ListN.{set}
-use Rattle.trace.specs.Rows.{rowAt}
+use Rattle.trace.specs.Rows.{choose, rowAt}
 use Rattle.trace.specs.declared.Row.{Row}
+use Rattle.trace.specs.declared.Row.the-variants.{Agent, Number, Nonce, Prf, PublicKey, PrivateKey, SessionKey, Hash, Crypt, Pair}
 use Rattle.trace.proofs.First.{lt-suc}
-use Rattle.spy.specs.Closure.{State, stateOf, rowMarked, knowRow, sidesOf, below, learnWith, learnRow, reopenRow}
+use Rattle.trace.proofs.Both.{both}
+use Rattle.spy.specs.Closure.{State, stateOf, rowMarked, knowRow, opens, noSides, sidesOf, opened, below, bothSides, learnWith, learnRow, reopenRow}
 use Rattle.spy.specs.declared.closure.Sides.{Sides}
 
 or-true : (a : Bool) → (a || true) ≡ true
@@ -83,3 +86,43 @@ module _ (file : List ℕ) where
         (rr rk : List ℕ) (rf : Bool) → stateOf rr rk rf ≡ below (learnRow file row) lr lk row (sides .right) →
         stateOf rr rk (lf || rf) ≡ reopenRow file rs ks row
     reopen-open m sides se lr lk lf le rr rk rf re = rw (m, reopenRow, ← se, ← le, ← re)
+
+  module _ (rs ks : List ℕ) (row : ℕ) where
+    -- where all that a row can open into is marked, opening it changes nothing
+    below-marked : (x : ℕ) → rowMarked rs x ≡ true → stateOf rs ks false ≡ below (learnRow file row) rs ks row x
+    below-marked x m = go (decLt x row)
+      where
+        go : Dec (x < row) → stateOf rs ks false ≡ below (learnRow file row) rs ks row x
+        go (yes l) = learn-known rs ks x m ∙ below-taken rs ks row x l
+        go (no l) = below-left rs ks row x (omega arith)
+
+    no-side : stateOf rs ks false ≡ below (learnRow file row) rs ks row row
+    no-side = below-left rs ks row row (omega arith)
+
+    both-still : (sides : Sides) → stateOf rs ks false ≡ below (learnRow file row) rs ks row (sides .left) →
+        stateOf rs ks false ≡ below (learnRow file row) rs ks row (sides .right) →
+        stateOf rs ks false ≡ bothSides (learnRow file row) rs ks row sides
+    both-still sides l r = rw (← l, ← r) refl
+
+    opened-still : (R : Row) → opened rs R ≡ true → stateOf rs ks false ≡ bothSides (learnRow file row) rs ks row (sidesOf file rs ks row R)
+    opened-still (Agent a) o = both-still (noSides row false) no-side no-side
+    opened-still (Number n) o = both-still (noSides row false) no-side no-side
+    opened-still (Nonce n) o = both-still (noSides row false) no-side no-side
+    opened-still (Prf s x y) o = both-still (noSides row false) no-side no-side
+    opened-still (PublicKey a) o = both-still (noSides row true) no-side no-side
+    opened-still (PrivateKey a) o = both-still (noSides row true) no-side no-side
+    opened-still (SessionKey t x y z) o = both-still (noSides row true) no-side no-side
+    opened-still (Hash x) o = both-still (noSides row false) no-side no-side
+    opened-still (Crypt k x) o = go (opens file rs ks (k .0))
+      where
+        go : (b : Bool) →
+            stateOf rs ks false ≡
+            bothSides (learnRow file row) rs ks row (choose b (record { left = x .0; right = row; key = false }) (noSides row false))
+        go true = both-still (record { left = x .0; right = row; key = false }) (below-marked (x .0) o) no-side
+        go false = both-still (noSides row false) no-side no-side
+    opened-still (Pair x y) o =
+        let b = both (rowMarked rs (x .0)) (rowMarked rs (y .0)) o in
+        both-still (record { left = x .0; right = y .0; key = false }) (below-marked (x .0) (b .0)) (below-marked (y .0) (b .1))
+
+    pub reopen-opened : rowMarked rs row ≡ true → opened rs (rowAt file row) ≡ true → stateOf rs ks false ≡ reopenRow file rs ks row
+    reopen-opened m o = rw (m, reopenRow) (opened-still (rowAt file row) o)

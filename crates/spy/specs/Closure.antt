@@ -101,6 +101,19 @@ learnRow file (suc d) rows keys row =
           learnWith (λ rs ks x. learnRow file d rs ks x) rows keys row (sidesOf file rows keys row (rowAt file row)) (rowAt file row)
     ]
 
+-- all that the row can open into is marked
+abbrev pub opened : List ℕ → Row → Bool
+opened rows (Agent a) = true
+opened rows (Number n) = true
+opened rows (Nonce n) = true
+opened rows (Prf s x y) = true
+opened rows (PublicKey a) = true
+opened rows (PrivateKey a) = true
+opened rows (SessionKey o x y z) = true
+opened rows (Hash x) = true
+opened rows (Crypt k x) = rowMarked rows (x .0)
+opened rows (Pair x y) = rowMarked rows (x .0) && rowMarked rows (y .0)
+
 -- a marked row is opened again, with the keys that are known by now
 abbrev pub reopenRow : List ℕ → (rows keys : List ℕ) → ℕ → State
 reopenRow file rows keys r =

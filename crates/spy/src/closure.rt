@@ -12,7 +12,7 @@ ghost use Prim.Native.Nat.{suc, _+_};
 ghost use Rattle.trace.specs.File.{rowsOf, compromisedIn};
 ghost use Rattle.trace.specs.Rows.{choose, rowAt};
 ghost use Rattle.trace.specs.Events.{eventAt};
-ghost use Rattle.spy.specs.Closure.{stateOf, rowMarked, keyMarked, know, knowRow, opens, noSides, sidesOf, below, learnRow, reopenRow, passRows, seeRow, seeEvent, startKeys, keyKnown, markRow, startRows};
+ghost use Rattle.spy.specs.Closure.{stateOf, rowMarked, keyMarked, know, knowRow, opens, noSides, sidesOf, opened, below, learnRow, reopenRow, passRows, seeRow, seeEvent, startKeys, keyKnown, markRow, startRows};
 
 const ROWS: u16 = 1024;
 
@@ -166,6 +166,29 @@ fn learn_below(file: &[u8], rows: &mut [u8; 1024], keys: &mut [u8; 128], row: u1
     }
 }
 
+// Whether all that a row can open into is marked, so that opening it again changes nothing.
+fn is_open(file: &[u8], rows: &[u8; 1024], row: u16) -> bool
+    ensures { λ b. ⌜ b ≡ opened (now (rows .entry)) (rowAt (now (file .entry)) row) ⌝ }
+{
+    let kind = trace::row_at(file, RowNo(row));
+    match kind {
+        Row::Pair(x, y) => {
+            let left = row_marked(rows, x.0);
+            let right = row_marked(rows, y.0);
+            left & right
+        }
+        Row::Crypt(_, x) => row_marked(rows, x.0),
+        Row::PublicKey(_) => true,
+        Row::PrivateKey(_) => true,
+        Row::SessionKey(_, _, _, _) => true,
+        Row::Agent(_) => true,
+        Row::Number(_) => true,
+        Row::Nonce(_) => true,
+        Row::Prf(_, _, _) => true,
+        Row::Hash(_) => true,
+    }
+}
+
 // Opens a marked row again, with the keys that are known by now.
 fn reopen(file: &[u8], rows: &mut [u8; 1024], keys: &mut [u8; 128], r: u16) -> bool
     ensures { λ f. ⌜ stateOf (now (rows .exit)) (now (keys .exit)) f ≡
@@ -173,6 +196,10 @@ fn reopen(file: &[u8], rows: &mut [u8; 1024], keys: &mut [u8; 128], r: u16) -> b
 {
     let known = row_marked(rows, r);
     if known {
+        let open = is_open(file, rows, r);
+        if open {
+            return false;
+        }
         let sides = sides_of(file, rows, keys, r);
         let left = learn_below(file, rows, keys, r, sides.left);
         let right = learn_below(file, rows, keys, r, sides.right);
