@@ -18,6 +18,8 @@ use Rattle.used.specs.Marking.{useEvent, usedAfter}
 use Rattle.earlier.specs.declared.Heard.{Heard}
 use Rattle.earlier.specs.Earlier.{heardAt}
 use Rattle.rules.specs.Tests.{keyExchange}
+use Rattle.rules.specs.Making.{Kept}
+use Rattle.rules.proofs.Growing.{see-kept}
 use Rattle.judge.specs.Lowest.{lowestSaid, lowestNoted, lowestRule, ruleOf, exchangeOf}
 use Rattle.judge.specs.Walk.{Walked, walkedTo, walk}
 use Rattle.judge.specs.Pace.{pace, paced, Before}
@@ -167,6 +169,10 @@ before-more file e us rs ks us′ rs′ ks′ b u s =
     let k = known-more file e rs ks rs′ ks′ (b .sees, b .opens) s in
     let one : e + 1 ≡ suc e = omega arith in
     record { uses = rw (← b .uses) u; sees = rw one at (k .0); opens = rw one at (k .1) }
+
+-- what an event teaches makes nothing forgotten
+pub rows-kept : (file : List ℕ) (e : ℕ) (rs ks : List ℕ) {rs′ : List ℕ} → rs′ ≡ seeEvent file rs ks (eventAt file e) .rows → Kept rs rs′
+rows-kept file e rs ks q = subst (Kept rs) (sym q) (see-kept file rs ks (eventAt file e))
 
 pub before-next : (file : List ℕ) (i : ℕ) {us rs ks : List ℕ} → Before file (suc i) us rs ks → Before file (i + 1) us rs ks
 before-next file i {us} {rs} {ks} b =

@@ -1,6 +1,7 @@
 // The lowest rule that fits an event, by what the event is; 0 for none.
 use earlier::Heard;
 ghost use mathlib.Core.Path.{_≡_};
+ghost use Rattle.rules.specs.Making.{SoundMarks};
 ghost use Rattle.judge.specs.Lowest.{lowestNoted, lowestCrypt, lowestPlain, lowestSaid, lowestRule};
 
 // A note: 2, 10 or 11.
@@ -63,12 +64,21 @@ fn lowest_plain(file: &[u8], used: &[u8; 1024], e: u16, h: Heard) -> u8
     if fourteen { 14 } else { 0 }
 }
 
-// A Says: 1, or by whether its message is a Crypt.
-fn lowest_said(file: &[u8], used: &[u8; 1024], known: &[u8; 1024], e: u16, h: Heard) -> u8
+// A Says: 1, or by whether its message is a Crypt. The rows in `made` can be made, and stay so.
+fn lowest_said(
+    file: &[u8],
+    used: &[u8; 1024],
+    known: &[u8; 1024],
+    made: &mut [u8; 1024],
+    e: u16,
+    h: Heard,
+) -> u8
+    requires { ⌜ SoundMarks (now file) (now known) (now made) ⌝ }
     ensures { λ k. ⌜ k ≡ lowestSaid (now (file .entry)) (now (used .entry)) (now (known .entry)) e h ⌝ }
+    ensures { λ _. ⌜ SoundMarks (now (file .entry)) (now (known .entry)) (now (made .exit)) ⌝ }
 {
     let sealed = forms::leaves::crypt_of(file, h.row).is;
-    let one = rules::fake(file, known, h);
+    let one = rules::fake(file, known, made, h);
     if one {
         return 1;
     }
@@ -79,11 +89,20 @@ fn lowest_said(file: &[u8], used: &[u8; 1024], known: &[u8; 1024], e: u16, h: He
     }
 }
 
-pub fn lowest_rule(file: &[u8], used: &[u8; 1024], known: &[u8; 1024], e: u16, h: Heard) -> u8
+pub fn lowest_rule(
+    file: &[u8],
+    used: &[u8; 1024],
+    known: &[u8; 1024],
+    made: &mut [u8; 1024],
+    e: u16,
+    h: Heard,
+) -> u8
+    requires { ⌜ SoundMarks (now file) (now known) (now made) ⌝ }
     ensures { λ k. ⌜ k ≡ lowestRule (now (file .entry)) (now (used .entry)) (now (known .entry)) e h ⌝ }
+    ensures { λ _. ⌜ SoundMarks (now (file .entry)) (now (known .entry)) (now (made .exit)) ⌝ }
 {
     if h.says {
-        lowest_said(file, used, known, e, h)
+        lowest_said(file, used, known, made, e, h)
     } else {
         lowest_noted(file, known, e, h)
     }

@@ -4,6 +4,7 @@ use trace::EventNo;
 ghost use mathlib.Core.Path.{_≡_};
 ghost use Prim.Native.Nat.{suc, _+_};
 ghost use lib.ListN.{set};
+ghost use Rattle.rules.specs.Making.{SoundMarks, Kept};
 ghost use Rattle.judge.specs.Lowest.{ruleOf, exchangeOf};
 ghost use Rattle.judge.specs.Pace.{pace, paced, Before};
 ghost use Rattle.judge.specs.Reply.{cleared, walkFile};
@@ -40,29 +41,33 @@ fn take_event(
 )
     requires { ⌜ Before (now file) e (now used) (now rows) (now keys) ⌝ }
     ensures { λ _. ⌜ Before (now (file .entry)) (suc e) (now (used .exit)) (now (rows .exit)) (now (keys .exit)) ⌝ }
+    ensures { λ _. ⌜ Kept (now (rows .entry)) (now (rows .exit)) ⌝ }
 {
     used::use_event(file, used, EventNo(e));
     spy::closure::see_event(file, rows, keys, EventNo(e));
 }
 
-// One step of the walk from event i; tells how many events it takes.
+// One step of the walk from event i; tells how many events it takes. The rows in `made` can be made.
 fn advance(
     file: &[u8],
     rules: &mut [u8],
     used: &mut [u8; 1024],
     rows: &mut [u8; 1024],
     keys: &mut [u8; 128],
+    made: &mut [u8; 1024],
     i: u16,
     events: u16,
 ) -> u16
     requires { ⌜ Before (now file) i (now used) (now rows) (now keys) ⌝ }
+    requires { ⌜ SoundMarks (now file) (now rows) (now made) ⌝ }
     ensures { λ n. ⌜ n ≡ pace (ruleOf (now (file .entry))) (exchangeOf (now (file .entry))) events i ⌝ }
     ensures { λ _. ⌜ now (rules .exit) ≡
         paced (ruleOf (now (file .entry))) (exchangeOf (now (file .entry))) events i (now (rules .entry)) ⌝ }
     ensures { λ n. ⌜ Before (now (file .entry)) (i + n) (now (used .exit)) (now (rows .exit)) (now (keys .exit)) ⌝ }
+    ensures { λ _. ⌜ SoundMarks (now (file .entry)) (now (rows .exit)) (now (made .exit)) ⌝ }
 {
     let note = earlier::hear(file, i);
-    let rule = lowest_rule(file, used, rows, i, note);
+    let rule = lowest_rule(file, used, rows, made, i, note);
     if 0 < rule {
         put(rules, i as usize, rule);
         take_event(file, used, rows, keys, i);
@@ -93,10 +98,20 @@ pub fn walk_events(file: &[u8], rules: &mut [u8]) -> u16
     let mut used = [0u8; 1024];
     let mut rows = [0u8; 1024];
     let mut keys = [0u8; 128];
+    let mut made = [0u8; 1024];
     spy::closure::start(file, &mut rows, &mut keys);
     let mut i: u16 = 0;
     while i < events {
-        let n = advance(file, rules, &mut used, &mut rows, &mut keys, i, events);
+        let n = advance(
+            file,
+            rules,
+            &mut used,
+            &mut rows,
+            &mut keys,
+            &mut made,
+            i,
+            events,
+        );
         if n == 0 {
             return i;
         }

@@ -1,14 +1,15 @@
 // The rules of one message over rows: which of them put an event on those before it. Shapes are
 // tested before a search is run.
+mod synth;
+
 use earlier::Heard;
 use earlier::Wanted;
 use spy::closure::row_marked;
 ghost use mathlib.Core.Path.{_≡_};
 ghost use Rattle.rules.specs.Tests as tests;
+ghost use Rattle.rules.specs.Making.{told, tryFake};
 
 const SPY: u16 = 0;
-
-const ROWS: u16 = 1024;
 
 // Whether a row is a plain nonce that no event before used.
 fn is_fresh(file: &[u8], used: &[u8; 1024], r: u16) -> bool
@@ -19,28 +20,13 @@ fn is_fresh(file: &[u8], used: &[u8; 1024], r: u16) -> bool
     plain & !old
 }
 
-// Whether the spy can make a row: a sweep up to it, unless it is known.
-fn can_make(file: &[u8], known: &[u8; 1024], r: u16) -> bool
-    ensures { λ b. ⌜ b ≡ tests.canMake (now (file .entry)) (now (known .entry)) r ⌝ }
-{
-    let analysed = row_marked(known, r);
-    if analysed {
-        return true;
-    }
-    if ROWS <= r {
-        return false;
-    }
-    let mut marks = [0u8; 1024];
-    spy::made::write_marks(file, known, &mut marks, r + 1);
-    0 < marks[r as usize]
-}
-
-// Rule 1: the spy says what it can make.
-pub fn fake(file: &[u8], known: &[u8; 1024], h: Heard) -> bool
-    ensures { λ b. ⌜ b ≡ tests.fake (now (file .entry)) (now (known .entry)) h ⌝ }
+// Rule 1: the spy says what it can make. `made` holds rows that it can make, and gets more.
+pub fn fake(file: &[u8], known: &[u8; 1024], made: &mut [u8; 1024], h: Heard) -> bool
+    ensures { λ b. ⌜ told (now (made .exit)) b ≡
+        tryFake (now (file .entry)) (now (known .entry)) (now (made .entry)) h ⌝ }
 {
     if (h.says) & (h.from == SPY) {
-        can_make(file, known, h.row)
+        synth::make(file, known, made, h.row)
     } else {
         false
     }

@@ -3,40 +3,61 @@
 use mathlib.Core.Path.{refl}
 use denote.Ref.{now}
 use borrow.Author.Needs.{needs}
+use Rattle.rules.proofs.Growing.{can-more}
 use Rattle.judge.proofs.Paces.{goes-one, goes-two, goes-last, goes-none, before-next}
 use Rattle.judge.proofs.pace.advance.Statement.{statement}
 use Rattle.judge.proofs.pace.advance.Tie as tie
 
 returns : tie.Need-returns
 returns c =
-    let s = c .before .before .before .before .before .before .before .before .before .before .before .before .before .before .before in
-    goes-one (now (s .args .file)) (s .args .events) (s .args .i) (s .pre) (c .before .before .before .before .before .before .before .before .before .before .before .before .hear .ensures)
-    (c .before .before .before .before .before .before .before .before .before .lowest-rule .ensures) (now (s .args .rules)) (c .before .before .before .before .before .before .before .before .if1 .taken)
-    (c .before .before .before .before .before .before .put .ensures) (c .take-event .ensures)
+    let s = c .before .before .before .before .before .before .before .before .before .before .before .before .before .before .before .before in
+    let f = now (s .args .file) in
+    let r = c .before .before .before .before .before .before .before .before .before .lowest-rule .ensures in
+    let g =
+    goes-one f (s .args .events) (s .args .i) (s .pre .0) (c .before .before .before .before .before .before .before .before .before .before .before .before .before .hear .ensures) (r .0) (now (s .args .rules))
+    (c .before .before .before .before .before .before .before .before .if1 .taken) (c .before .before .before .before .before .before .put .ensures) (c .take-event .ensures .0)
+    in
+    (g .0, (g .1 .0, (g .1 .1, λ x m. can-more f (now (s .args .rows)) _ (c .take-event .ensures .1) x (r .1 x m))))
 
 returns-2 : tie.Need-returns-2
 returns-2 c =
-    let s = c .before .before .before .before .before .before .before .before in
-    goes-last (now (s .args .file)) (s .args .events) (s .args .i) (s .pre) (c .before .before .before .before .before .hear .ensures)
-    (c .before .before .lowest-rule .ensures) (now (s .args .rules)) (c .before .if1 .left) (c .if2 .taken)
+    let s = c .before .before .before .before .before .before .before .before .before in
+    let f = now (s .args .file) in
+    let r = c .before .before .lowest-rule .ensures in
+    let g =
+    goes-last f (s .args .events) (s .args .i) (s .pre .0) (c .before .before .before .before .before .before .hear .ensures) (r .0) (now (s .args .rules))
+    (c .before .if1 .left) (c .if2 .taken)
+    in
+    (g .0, (g .1 .0, (g .1 .1, r .1)))
+
+take-event-requires-2 : tie.Need-take-event-requires-2
+take-event-requires-2 c κs = c .before .before .before .before .before .before .before .before .before .before .before .before .before .before .before .before .before .before .before .before .before .before .before .before .pre .0
 
 take-event-requires-3 : tie.Need-take-event-requires-3
-take-event-requires-3 c κs = before-next _ _ (c .before .before .before .take-event2 .ensures)
+take-event-requires-3 c κs = before-next _ _ (c .before .before .before .take-event2 .ensures .0)
 
 returns-3 : tie.Need-returns-3
 returns-3 c =
-    let s = c .before .before .before .before .before .before .before .before .before .before .before .before .before .before .before .before .before .before .before .before .before .before .before .before .before .before .before .before in
-    goes-two (now (s .args .file)) (s .args .events) (s .args .i) (s .pre) (c .before .before .before .before .before .before .before .before .before .before .before .before .before .before .before .before .before .before .before .before .before .before .before .before .before .hear .ensures)
-    (c .before .before .before .before .before .before .before .before .before .before .before .before .before .before .before .before .before .before .before .before .before .before .lowest-rule .ensures) (now (s .args .rules)) (c .before .before .before .before .before .before .before .before .before .before .before .before .before .before .before .before .before .before .before .before .before .if1 .left) refl (c .before .before .before .before .before .before .before .before .before .before .before .before .before .before .before .before .before .before .before .before .if2 .left)
-    (c .before .before .before .before .before .before .before .before .before .before .before .before .before .before .before .before .before .before .before .hear2 .ensures) (c .before .before .before .before .before .before .before .before .before .before .before .before .before .before .before .before .before .key-exchange .ensures) (c .before .before .before .before .before .before .before .before .before .before .before .before .before .before .before .before .if3 .taken)
-    (c .before .before .before .before .before .before .before .before .before .before .before .before .before .before .put2 .ensures) (c .before .before .before .before .before .before .before .before .before .before .put3 .ensures) (c .take-event3 .ensures)
+    let s = c .before .before .before .before .before .before .before .before .before .before .before .before .before .before .before .before .before .before .before .before .before .before .before .before .before .before .before .before .before in
+    let f = now (s .args .file) in
+    let r = c .before .before .before .before .before .before .before .before .before .before .before .before .before .before .before .before .before .before .before .before .before .before .lowest-rule .ensures in
+    let g =
+    goes-two f (s .args .events) (s .args .i) (s .pre .0) (c .before .before .before .before .before .before .before .before .before .before .before .before .before .before .before .before .before .before .before .before .before .before .before .before .before .before .hear .ensures) (r .0) (now (s .args .rules))
+    (c .before .before .before .before .before .before .before .before .before .before .before .before .before .before .before .before .before .before .before .before .before .if1 .left) refl (c .before .before .before .before .before .before .before .before .before .before .before .before .before .before .before .before .before .before .before .before .if2 .left) (c .before .before .before .before .before .before .before .before .before .before .before .before .before .before .before .before .before .before .before .hear2 .ensures) (c .before .before .before .before .before .before .before .before .before .before .before .before .before .before .before .before .before .key-exchange .ensures)
+    (c .before .before .before .before .before .before .before .before .before .before .before .before .before .before .before .before .if3 .taken) (c .before .before .before .before .before .before .before .before .before .before .before .before .before .before .put2 .ensures) (c .before .before .before .before .before .before .before .before .before .before .put3 .ensures) (c .take-event3 .ensures .0)
+    in
+    (g .0, (g .1 .0, (g .1 .1, λ x m. can-more f (now (s .args .rows)) _ (λ y k. c .take-event3 .ensures .1 y (c .before .before .before .before .take-event2 .ensures .1 y k)) x (r .1 x m))))
 
 returns-4 : tie.Need-returns-4
 returns-4 c =
-    let s = c .before .before .before .before .before .before .before .before .before .before .before .before in
-    goes-none (now (s .args .file)) (s .args .events) (s .args .i) (s .pre) (c .before .before .before .before .before .before .before .before .before .hear .ensures)
-    (c .before .before .before .before .before .before .lowest-rule .ensures) (now (s .args .rules)) (c .before .before .before .before .before .if1 .left) refl (c .before .before .before .before .if2 .left)
-    (c .before .before .before .hear2 .ensures) (c .before .key-exchange .ensures) (c .if3 .left)
+    let s = c .before .before .before .before .before .before .before .before .before .before .before .before .before in
+    let f = now (s .args .file) in
+    let r = c .before .before .before .before .before .before .lowest-rule .ensures in
+    let g =
+    goes-none f (s .args .events) (s .args .i) (s .pre .0) (c .before .before .before .before .before .before .before .before .before .before .hear .ensures) (r .0) (now (s .args .rules))
+    (c .before .before .before .before .before .if1 .left) refl (c .before .before .before .before .if2 .left) (c .before .before .before .hear2 .ensures) (c .before .key-exchange .ensures) (c .if3 .left)
+    in
+    (g .0, (g .1 .0, (g .1 .1, r .1)))
 
 pub advance-spec : {M : Type 1} → statement M
 advance-spec =
@@ -56,7 +77,7 @@ advance-spec =
     (λ c κs. search needs)
     (λ c. search needs)
     (λ c κs. search needs)
-    (λ c κs. search needs)
+    take-event-requires-2
     take-event-requires-3
     (λ c. search needs)
     returns-3

@@ -5,6 +5,8 @@ use mathlib.Core.Path.{_≡_, refl, sym, ap, _∙_}
 use native.Mathlib.Omega.{arith}
 use denote.Ref.{now}
 use lib.ListN.{length}
+use Rattle.rules.specs.Making.{SoundMarks}
+use Rattle.rules.proofs.Carried.{none-sound}
 use Rattle.judge.specs.Walk.{walk}
 use Rattle.judge.specs.Lowest.{ruleOf, exchangeOf}
 use Rattle.judge.specs.Pace.{Before}
@@ -13,12 +15,13 @@ use Rattle.judge.proofs.pace.walk_events.Statement.{statement}
 use Rattle.judge.proofs.pace.walk_events.Tie as tie
 
 abbrev Inv-loop : tie.InvT-loop
-Inv-loop file rules₀ events used₀ rows₀ keys₀ i₀ rules used rows keys i =
+Inv-loop file rules₀ events used₀ rows₀ keys₀ made₀ i₀ rules used rows keys made i =
     (i ≤ events) × (length rules ≡ length rules₀) × Before file i used rows keys ×
-    Rest (ruleOf file) (exchangeOf file) events (walk (ruleOf file) (exchangeOf file) events events 0 rules₀) i rules
+    Rest (ruleOf file) (exchangeOf file) events (walk (ruleOf file) (exchangeOf file) events events 0 rules₀) i rules ×
+    SoundMarks file rows made
 
 abbrev μ-loop : tie.MeasureT-loop
-μ-loop file rules₀ events used₀ rows₀ keys₀ i₀ rules used rows keys i = events - i
+μ-loop file rules₀ events used₀ rows₀ keys₀ made₀ i₀ rules used rows keys made i = events - i
 
 loop-holds : tie.Need-loop-holds Inv-loop μ-loop
 loop-holds c =
@@ -27,58 +30,62 @@ loop-holds c =
       refl,
       before-first f _ _ _ _ refl refl (c .start .ensures .0) (c .start .ensures .1) _ refl,
       rest-whole (ruleOf f) (exchangeOf f) (c .before .before .before .event-count .result) _,
+      none-sound f _,
     )
 
 advance-requires : tie.Need-advance-requires Inv-loop μ-loop
-advance-requires c κs = c .before .before .before .before .before .loop .inv .2
+advance-requires c κs =
+    let l = c .before .before .before .before .before .before .loop in
+    (l .inv .2, l .inv .4)
 
 same-length : tie.Need-same-length Inv-loop μ-loop
 same-length c =
-    let f = now (c .before .before .before .before .before .before .before .before .before .before .before .before .before .before .before .before .args .file) in
-    let l = c .before .before .before .before .before .before .before .before .before .loop in
-    ap length (c .before .before .before .advance .ensures .1 .0) ∙ paced-length (ruleOf f) (exchangeOf f) (c .before .before .before .before .before .before .before .before .before .before .before .before .before .event-count .result) (l .i) (l .rules) ∙ l .inv .1
+    let f = now (c .before .before .before .before .before .before .before .before .before .before .before .before .before .before .before .before .before .args .file) in
+    let l = c .before .before .before .before .before .before .before .before .before .before .loop in
+    ap length (c .before .before .before .advance .ensures .1 .0) ∙ paced-length (ruleOf f) (exchangeOf f) (c .before .before .before .before .before .before .before .before .before .before .before .before .before .before .event-count .result) (l .i) (l .rules) ∙ l .inv .1
 
 returns : tie.Need-returns Inv-loop μ-loop
 returns c =
-    let a = c .before .before .before .before .before .before .before .before .before .before .before .before .before .before .before .before .args in
+    let a = c .before .before .before .before .before .before .before .before .before .before .before .before .before .before .before .before .before .args in
     let f = now (a .file) in
-    let N = c .before .before .before .before .before .before .before .before .before .before .before .before .before .event-count .result in
-    let l = c .before .before .before .before .before .before .before .before .before .loop in
+    let N = c .before .before .before .before .before .before .before .before .before .before .before .before .before .before .event-count .result in
+    let l = c .before .before .before .before .before .before .before .before .before .before .loop in
     let v = c .before .before .before .advance in
-    walk-ends f (now (a .rules)) N (l .i) (l .rules) _ (c .before .before .before .before .before .before .before .before .before .before .before .before .before .event-count .ensures)
-    (rest-stop (ruleOf f) (exchangeOf f) N _ (l .i) (v .result) (l .rules) (c .before .before .before .before .before .before .before .before .loop-test .taken) (v .ensures .0) (c .if1 .taken) (l .inv .3))
+    walk-ends f (now (a .rules)) N (l .i) (l .rules) _ (c .before .before .before .before .before .before .before .before .before .before .before .before .before .before .event-count .ensures)
+    (rest-stop (ruleOf f) (exchangeOf f) N _ (l .i) (v .result) (l .rules) (c .before .before .before .before .before .before .before .before .before .loop-test .taken) (v .ensures .0) (c .if1 .taken) (l .inv .3))
     (v .ensures .1 .0 ∙ paced-same (ruleOf f) (exchangeOf f) N (l .i) (l .rules) (sym (v .ensures .0) ∙ c .if1 .taken))
 
 add-i : tie.Need-add-i Inv-loop μ-loop
 add-i c =
-    let f = now (c .before .before .before .before .before .before .before .before .before .before .before .before .before .before .before .before .args .file) in
-    let N = c .before .before .before .before .before .before .before .before .before .before .before .before .before .event-count .result in
-    let l = c .before .before .before .before .before .before .before .before .before .loop in
+    let f = now (c .before .before .before .before .before .before .before .before .before .before .before .before .before .before .before .before .before .args .file) in
+    let N = c .before .before .before .before .before .before .before .before .before .before .before .before .before .before .event-count .result in
+    let l = c .before .before .before .before .before .before .before .before .before .before .loop in
     let v = c .before .before .before .advance in
-    let w = pace-within (ruleOf f) (exchangeOf f) N (l .i) (v .result) (c .before .before .before .before .before .before .before .before .loop-test .taken) (v .ensures .0) in
+    let w = pace-within (ruleOf f) (exchangeOf f) N (l .i) (v .result) (c .before .before .before .before .before .before .before .before .before .loop-test .taken) (v .ensures .0) in
     omega arith
 
 loop-less : tie.Need-loop-less Inv-loop μ-loop
 loop-less c =
-    let f = now (c .before .before .before .before .before .before .before .before .before .before .before .before .before .before .before .before .args .file) in
-    let N = c .before .before .before .before .before .before .before .before .before .before .before .before .before .event-count .result in
-    let l = c .before .before .before .before .before .before .before .before .before .loop in
+    let f = now (c .before .before .before .before .before .before .before .before .before .before .before .before .before .before .before .before .before .args .file) in
+    let N = c .before .before .before .before .before .before .before .before .before .before .before .before .before .before .event-count .result in
+    let l = c .before .before .before .before .before .before .before .before .before .before .loop in
     let v = c .before .before .before .advance in
-    let w = pace-within (ruleOf f) (exchangeOf f) N (l .i) (v .result) (c .before .before .before .before .before .before .before .before .loop-test .taken) (v .ensures .0) in
+    let w = pace-within (ruleOf f) (exchangeOf f) N (l .i) (v .result) (c .before .before .before .before .before .before .before .before .before .loop-test .taken) (v .ensures .0) in
     omega arith
 
 loop-again : tie.Need-loop-again Inv-loop μ-loop
 loop-again c =
-    let f = now (c .before .before .before .before .before .before .before .before .before .before .before .before .before .before .before .before .args .file) in
-    let N = c .before .before .before .before .before .before .before .before .before .before .before .before .before .event-count .result in
-    let l = c .before .before .before .before .before .before .before .before .before .loop in
+    let f = now (c .before .before .before .before .before .before .before .before .before .before .before .before .before .before .before .before .before .args .file) in
+    let N = c .before .before .before .before .before .before .before .before .before .before .before .before .before .before .event-count .result in
+    let l = c .before .before .before .before .before .before .before .before .before .before .loop in
     let v = c .before .before .before .advance in
-    let w = pace-within (ruleOf f) (exchangeOf f) N (l .i) (v .result) (c .before .before .before .before .before .before .before .before .loop-test .taken) (v .ensures .0) in (
+    let w = pace-within (ruleOf f) (exchangeOf f) N (l .i) (v .result) (c .before .before .before .before .before .before .before .before .before .loop-test .taken) (v .ensures .0) in (
       w,
       ap length (v .ensures .1 .0) ∙ paced-length (ruleOf f) (exchangeOf f) N (l .i) (l .rules) ∙ l .inv .1,
-      v .ensures .1 .1,
-      rest-more (ruleOf f) (exchangeOf f) N _ (l .i) (v .result) (l .rules) _ (c .before .before .before .before .before .before .before .before .loop-test .taken) (v .ensures .0) (c .if1 .left)
+      v .ensures .1 .1 .0,
+      rest-more (ruleOf f) (exchangeOf f) N _ (l .i) (v .result) (l .rules) _ (c .before .before .before .before .before .before .before .before .before .loop-test .taken) (v .ensures .0) (c .if1 .left)
           (v .ensures .1 .0) (l .inv .3),
+      v .ensures .1 .1 .1,
     )
 
 same-length-2 : tie.Need-same-length-2 Inv-loop μ-loop
