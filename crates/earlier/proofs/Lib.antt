@@ -1,2 +1,3 @@
 pub mod Meant
 pub mod Premises
+pub mod Gates

@@ -77,18 +77,30 @@ pub fn noted_by(h: Heard, from: u16) -> bool
     (!h.says) & (h.from == from)
 }
 
+// Nonces tell most hellos apart, so they are compared before the whole message is read.
 fn is_hello(file: &[u8], r: u16, agent: u16, na: u16, sid: u16, pa: u16) -> bool
     ensures { λ b. ⌜ b ≡ isHello (now (file .entry)) r agent na sid pa ⌝ }
 {
-    let m = forms::client_hello(file, r);
-    (m.is) & (m.agent == agent) & (m.na == na) & (m.sid == sid) & (m.pa == pa)
+    let p = forms::leaves::pair_of(file, r);
+    let q = forms::leaves::pair_of(file, p.second);
+    if (p.is) & (q.first == na) {
+        let m = forms::client_hello(file, r);
+        (m.is) & (m.agent == agent) & (m.na == na) & (m.sid == sid) & (m.pa == pa)
+    } else {
+        false
+    }
 }
 
 fn is_reply(file: &[u8], r: u16, nb: u16, sid: u16, pb: u16) -> bool
     ensures { λ b. ⌜ b ≡ isReply (now (file .entry)) r nb sid pb ⌝ }
 {
-    let m = forms::server_hello(file, r);
-    (m.is) & (m.nb == nb) & (m.sid == sid) & (m.pb == pb)
+    let p = forms::leaves::pair_of(file, r);
+    if (p.is) & (p.first == nb) {
+        let m = forms::server_hello(file, r);
+        (m.is) & (m.nb == nb) & (m.sid == sid) & (m.pb == pb)
+    } else {
+        false
+    }
 }
 
 fn hello_for(file: &[u8], h: Heard, to: u16, agent: u16, sid: u16) -> bool

@@ -32,7 +32,7 @@ use Rattle.rules.proofs.Steps.{event-same, notes-same, not-later, here-row}
 use Rattle.rules.proofs.Answers.{crypt-same}
 use Rattle.sessions.proofs.Finishes.{role-client, role-server}
 
-both8 : (a b c d e f g h : Bool) → (a && b && c && d && e && f && g && h) ≡ true → (a ≡ true) × (b ≡ true) × (c ≡ true) × (d ≡ true) × (e ≡ true) × (f ≡ true) × (g ≡ true) × (h ≡ true)
+pub both8 : (a b c d e f g h : Bool) → (a && b && c && d && e && f && g && h) ≡ true → (a ≡ true) × (b ≡ true) × (c ≡ true) × (d ≡ true) × (e ≡ true) × (f ≡ true) × (g ≡ true) × (h ≡ true)
 both8 a b c d e f g h t =
     let x = both5 (a && b && c && d) e f g h t in
     let y = both4 a b c d (x .0) in

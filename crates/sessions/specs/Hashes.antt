@@ -5,11 +5,19 @@ use mathlib.Core.List.{List}
 use lib.Dec.{ltb}
 use Rattle.trace.specs.First.{any}
 use Rattle.trace.specs.Rows.{choose}
+use Rattle.forms.specs.Kinds.{cryptOf, sessionOf}
 use Rattle.forms.specs.Forms.{sealedOf}
 use Rattle.spy.specs.Closure.{rowMarked, markRow}
 use Rattle.earlier.specs.declared.Heard.{Heard}
 use Rattle.earlier.specs.Earlier.{heardAt, saidTo}
 use Rattle.sessions.specs.Tests.{saidFinished, toldFinished}
+
+-- row r is a Crypt under a session key of that side
+abbrev pub underKey : List ℕ → ℕ → Bool → Bool
+underKey file r server =
+    let c = cryptOf file r in
+    let s = sessionOf file (c .first) in
+    c .is && s .is && choose server (s .server) (not (s .server))
 
 -- a Finished of that side, said to this agent, whatever its hash
 abbrev pub toldHere : List ℕ → Heard → Bool → ℕ → Bool

@@ -12,7 +12,7 @@ ghost use Rattle.trace.specs.Rows.{choose};
 ghost use Rattle.spy.specs.Closure.{markRow};
 ghost use Rattle.earlier.specs.Earlier.{heardAt};
 ghost use Rattle.sessions.specs.Tests.{clientFinished, serverFinished, saidFinished, toldFinished, bothFinished, clientAccepts, serverAccepts, clientResume, serverResume};
-ghost use Rattle.sessions.specs.Hashes.{toldHere, markEvent, markTold, answeredIn, agreedIn};
+ghost use Rattle.sessions.specs.Hashes.{underKey, toldHere, markEvent, markTold, answeredIn, agreedIn};
 
 const ROWS: u16 = 1024;
 
@@ -23,14 +23,24 @@ fn on_side(server: bool, is: bool) -> bool
     if server { is } else { !is }
 }
 
+// Whether a row is a Crypt under a session key of that side, which every Finished is.
+fn under_key(file: &[u8], r: u16, server: bool) -> bool
+    ensures { λ b. ⌜ b ≡ underKey (now (file .entry)) r server ⌝ }
+{
+    let c = forms::leaves::crypt_of(file, r);
+    let s = forms::leaves::session_of(file, c.first);
+    let side = on_side(server, s.server);
+    (c.is) & (s.is) & side
+}
+
 // Whether h is a Finished of that side, said to this agent, whatever its hash.
 fn told_here(file: &[u8], h: Heard, server: bool, to: u16) -> bool
     ensures { λ b. ⌜ b ≡ toldHere (now (file .entry)) h server to ⌝ }
 {
     let said = earlier::said_to(h, to);
     if said {
-        let c = forms::leaves::crypt_of(file, h.row);
-        if c.is {
+        let own = under_key(file, h.row, server);
+        if own {
             let f = forms::finished(file, h.row);
             let side = on_side(server, f.server);
             return (f.is) & side;
@@ -121,8 +131,8 @@ fn said_finished(
 {
     let said = earlier::said_by(h, from, to);
     if said {
-        let c = forms::leaves::crypt_of(file, h.row);
-        if c.is {
+        let own = under_key(file, h.row, server);
+        if own {
             let f = forms::finished(file, h.row);
             let side = on_side(server, f.server);
             return (f.is)
@@ -254,8 +264,8 @@ pub fn client_finished(file: &[u8], e: u16, h: Heard) -> bool
     ensures { λ b. ⌜ b ≡ clientFinished (now (file .entry)) e h ⌝ }
 {
     if h.says {
-        let c = forms::leaves::crypt_of(file, h.row);
-        if c.is {
+        let own = under_key(file, h.row, false);
+        if own {
             let m = forms::finished(file, h.row);
             let p = forms::leaves::prf_of(file, m.m);
             let is = said_by_client(h, m);
@@ -287,8 +297,8 @@ pub fn server_finished(file: &[u8], e: u16, h: Heard) -> bool
     ensures { λ b. ⌜ b ≡ serverFinished (now (file .entry)) e h ⌝ }
 {
     if h.says {
-        let c = forms::leaves::crypt_of(file, h.row);
-        if c.is {
+        let own = under_key(file, h.row, true);
+        if own {
             let m = forms::finished(file, h.row);
             let p = forms::leaves::prf_of(file, m.m);
             let is = said_by_server(h, m);
@@ -380,8 +390,8 @@ pub fn client_resume(file: &[u8], e: u16, h: Heard) -> bool
     ensures { λ b. ⌜ b ≡ clientResume (now (file .entry)) e h ⌝ }
 {
     if h.says {
-        let c = forms::leaves::crypt_of(file, h.row);
-        if c.is {
+        let own = under_key(file, h.row, false);
+        if own {
             let m = forms::finished(file, h.row);
             let fits = said_by_client(h, m);
             if fits {
@@ -415,8 +425,8 @@ pub fn server_resume(file: &[u8], e: u16, h: Heard) -> bool
     ensures { λ b. ⌜ b ≡ serverResume (now (file .entry)) e h ⌝ }
 {
     if h.says {
-        let c = forms::leaves::crypt_of(file, h.row);
-        if c.is {
+        let own = under_key(file, h.row, true);
+        if own {
             let m = forms::finished(file, h.row);
             let fits = said_by_server(h, m);
             if fits {

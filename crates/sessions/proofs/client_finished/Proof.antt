@@ -1,6 +1,7 @@
 -- `sessions::client_finished` meets its contract: each test that fails settles the conjunction.
 -- Assumes nothing.
-use mathlib.Core.Path.{refl}
+use mathlib.Core.Bool.{false}
+use mathlib.Core.Path.{refl, sym, _∙_}
 use borrow.Author.Needs.{needs}
 use Rattle.sessions.specs.Tests.{clientFinished}
 use Rattle.sessions.proofs.Branches.{unsealed}
@@ -74,7 +75,7 @@ unfolding clientFinished
 returns-5 c =
     rw (
       c .before .before .if1 .taken,
-      unsealed _ _ (rw (c .before .crypt-of .ensures) at (c .if2 .left)),
+      unsealed _ _ false (sym (c .before .under-key .ensures) ∙ c .if2 .left),
     )
     refl
 

@@ -1,8 +1,8 @@
 -- `sessions::said_finished` meets its contract: each test that fails settles the conjunction.
 -- Assumes nothing.
-use mathlib.Core.Path.{refl}
+use mathlib.Core.Path.{refl, sym, _∙_}
 use borrow.Author.Needs.{needs}
-use Rattle.sessions.proofs.Branches.{unsealed}
+use Rattle.sessions.proofs.Branches.{unsealed-parts}
 use Rattle.sessions.proofs.said_finished.Statement.{statement}
 use Rattle.sessions.proofs.said_finished.Tie as tie
 
@@ -21,7 +21,7 @@ returns-2 c =
     rw (
       ← c .before .before .before .said-by .ensures,
       c .before .before .if1 .taken,
-      unsealed _ _ (rw (c .before .crypt-of .ensures) at (c .if2 .left)),
+      unsealed-parts _ _ _ _ _ _ _ _ _ (sym (c .before .under-key .ensures) ∙ c .if2 .left),
     )
     refl
 

@@ -1,6 +1,7 @@
 -- `sessions::server_finished` meets its contract: each test that fails settles the conjunction.
 -- Assumes nothing.
-use mathlib.Core.Path.{refl}
+use mathlib.Core.Bool.{true}
+use mathlib.Core.Path.{refl, sym, _∙_}
 use borrow.Author.Needs.{needs}
 use Rattle.sessions.specs.Tests.{serverFinished}
 use Rattle.sessions.proofs.Branches.{unsealed}
@@ -74,7 +75,7 @@ unfolding serverFinished
 returns-5 c =
     rw (
       c .before .before .if1 .taken,
-      unsealed _ _ (rw (c .before .crypt-of .ensures) at (c .if2 .left)),
+      unsealed _ _ true (sym (c .before .under-key .ensures) ∙ c .if2 .left),
     )
     refl
 

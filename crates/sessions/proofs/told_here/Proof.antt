@@ -1,6 +1,6 @@
 -- `sessions::told_here` meets its contract: each test that fails settles the conjunction.
 -- Assumes nothing.
-use mathlib.Core.Path.{refl}
+use mathlib.Core.Path.{refl, sym, _∙_}
 use borrow.Author.Needs.{needs}
 use Rattle.sessions.proofs.Branches.{unsealed}
 use Rattle.sessions.proofs.told_here.Statement.{statement}
@@ -21,7 +21,7 @@ returns-2 c =
     rw (
       ← c .before .before .before .said-to .ensures,
       c .before .before .if1 .taken,
-      unsealed _ _ (rw (c .before .crypt-of .ensures) at (c .if2 .left)),
+      unsealed _ _ _ (sym (c .before .under-key .ensures) ∙ c .if2 .left),
     )
     refl
 
