@@ -8,7 +8,7 @@ use Rattle.trace.specs.First.{first, any}
 use Rattle.trace.specs.Rows.{lineOf, rowOf}
 use Rattle.trace.specs.Refusal.{reading, readItems}
 use Rattle.trace.specs.declared.Reading.the-variants.{Readable}
-use Rattle.spy.specs.Closure.{learnRow, passRows, settle, startKeys, startRows, knownAfter}
+use Rattle.spy.specs.Closure.{learnRow, upRows, downRows, passRows, settle, startKeys, startRows, knownAfter}
 use Rattle.spy.specs.Made.{writeMarks}
 use Rattle.spy.specs.Knowledge.{answerReadable, bytesReadable}
 use Rattle.spy.specs.declared.Answer.the-variants.{Written}
@@ -38,7 +38,7 @@ holds (verdict file v rules) (r, a, b) = rw (← a, ← b) (judged-readable file
 holds (knowledge file n marks) (r, a, b) = rw (← a, ← b) (knows-readable file n (buffer (rowsOf file)) r)
 
 pub computed : All Computed markedCases
-unfolding over word first any lineOf rowOf reading readItems learnRow passRows settle startKeys startRows knownAfter writeMarks useRow usedAfter agentOf publicOf privateOf hashOf pairOf cryptOf prfOf sessionOf isNumber isNonce isPlain isKey threeOf fourOf helloOf replyOf keptOf signedOf rememberedOf agreementOf sealedOf derivedOf verifiedOf earlier fake spyKeys clientHello serverHello certificate keyExchange certVerify oops clientFinished serverFinished bothFinished clientAccepts serverAccepts clientResume serverResume walk lowestNoted lowestCrypt lowestPlain lowestSaid lowestRule cleared
+unfolding over word first any lineOf rowOf reading readItems learnRow upRows downRows passRows settle startKeys startRows knownAfter writeMarks useRow usedAfter agentOf publicOf privateOf hashOf pairOf cryptOf prfOf sessionOf isNumber isNonce isPlain isKey threeOf fourOf helloOf replyOf keptOf signedOf rememberedOf agreementOf sealedOf derivedOf verifiedOf earlier fake spyKeys clientHello serverHello certificate keyExchange certVerify oops clientFinished serverFinished bothFinished clientAccepts serverAccepts clientResume serverResume walk lowestNoted lowestCrypt lowestPlain lowestSaid lowestRule cleared
 computed =
     also {c = P1} (refl, refl, refl)
     (also {c = P2} (refl, refl, refl)

@@ -17,7 +17,7 @@ use Rattle.trace.specs.declared.Event.{Event}
 use Rattle.trace.specs.declared.Event.the-variants.{Says, Notes}
 use Rattle.trace.proofs.Both.{both}
 use Rattle.spy.specs.Made.{made, makes, writeMarks}
-use Rattle.spy.specs.Closure.{State, stateOf, rowMarked, sidesOf, below, bothSides, learnWith, learnRow, reopenRow, passRows, settle, seeRow, seeEvent}
+use Rattle.spy.specs.Closure.{State, stateOf, rowMarked, sidesOf, below, bothSides, learnWith, learnRow, reopenRow, upRows, downRows, passRows, settle, seeRow, seeEvent}
 use Rattle.rules.specs.Tests.{canMake}
 use Rattle.rules.specs.Making.{Kept}
 use Rattle.rules.proofs.Branches.{and}
@@ -79,12 +79,25 @@ module _ (file : List ℕ) where
       by-test true = both-kept (learnRow file r) (learn-kept r) rs ks r
       by-test false = λ x m. m
 
+  up-kept : (n : ℕ) (rs ks : List ℕ) → Kept rs (upRows file n rs ks .rows)
+  unfolding upRows
+  up-kept zero rs ks = λ x m. m
+  up-kept (suc n) rs ks = λ x m.
+      let s = upRows file n rs ks in
+      reopen-kept (s .rows) (s .keys) n x (up-kept n rs ks x m)
+
+  down-kept : (n : ℕ) (rs ks : List ℕ) → Kept rs (downRows file n rs ks .rows)
+  unfolding downRows
+  down-kept zero rs ks = λ x m. m
+  down-kept (suc n) rs ks = λ x m.
+      let s = reopenRow file rs ks n in
+      down-kept n (s .rows) (s .keys) x (reopen-kept rs ks n x m)
+
   pass-kept : (n : ℕ) (rs ks : List ℕ) → Kept rs (passRows file n rs ks .rows)
   unfolding passRows
-  pass-kept zero rs ks = λ x m. m
-  pass-kept (suc n) rs ks = λ x m.
-      let s = passRows file n rs ks in
-      reopen-kept (s .rows) (s .keys) n x (pass-kept n rs ks x m)
+  pass-kept n rs ks = λ x m.
+      let s = downRows file n rs ks in
+      up-kept n (s .rows) (s .keys) x (down-kept n rs ks x m)
 
   settle-kept : (d : ℕ) (s : State) → Kept (s .rows) (settle file d s .rows)
   unfolding settle

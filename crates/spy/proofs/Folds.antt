@@ -11,18 +11,56 @@ use Rattle.trace.specs.File.{rowsOf, compromisedIn}
 use Rattle.trace.specs.Rows.{choose, rowAt}
 use Rattle.trace.specs.Events.{eventAt}
 use Rattle.spy.specs.Made.{markOf, writeMarks}
-use Rattle.spy.specs.Closure.{State, stateOf, know, reopenRow, passRows, settle, startKeys, keyKnown, markRow, startRows, seeEvent, zeros, knownAfter}
+use Rattle.spy.specs.Closure.{State, stateOf, know, reopenRow, upRows, downRows, passRows, settle, startKeys, keyKnown, markRow, startRows, seeEvent, zeros, knownAfter}
 
 module _ (file : List ℕ) where
-  pub pass-none : (rows keys : List ℕ) → stateOf rows keys false ≡ passRows file 0 rows keys
-  unfolding passRows
-  pass-none rows keys = refl
+  pub up-none : (rows keys : List ℕ) → stateOf rows keys false ≡ upRows file 0 rows keys
+  unfolding upRows
+  up-none rows keys = refl
 
-  pub pass-more : (r : ℕ) (rows keys rs ks rs′ ks′ : List ℕ) (f g : Bool) →
-      stateOf rs ks f ≡ passRows file r rows keys → stateOf rs′ ks′ g ≡ reopenRow file rs ks r →
-      stateOf rs′ ks′ (f || g) ≡ passRows file (r + 1) rows keys
+  pub up-more : (r : ℕ) (rows keys rs ks rs′ ks′ : List ℕ) (f g : Bool) →
+      stateOf rs ks f ≡ upRows file r rows keys → stateOf rs′ ks′ g ≡ reopenRow file rs ks r →
+      stateOf rs′ ks′ (f || g) ≡ upRows file (r + 1) rows keys
+  unfolding upRows
+  up-more r rows keys rs ks rs′ ks′ f g e q = rw (add-one, ← e, ← q)
+
+  -- what is left of the way down gives the end
+  pub down-start : (r : ℕ) (rows keys : List ℕ) →
+      stateOf (downRows file r rows keys .rows) (downRows file r rows keys .keys) (false || downRows file r rows keys .fresh) ≡
+      downRows file r rows keys
+  down-start r rows keys = refl
+
+  or-joined : (a b c : Bool) → ((a || b) || c) ≡ (a || (b || c))
+  or-joined true b c = refl
+  or-joined false b c = refl
+
+  down-step : (m : ℕ) (rs ks rs′ ks′ : List ℕ) (f g : Bool) → stateOf rs′ ks′ g ≡ reopenRow file rs ks m →
+      stateOf (downRows file m rs′ ks′ .rows) (downRows file m rs′ ks′ .keys) ((f || g) || downRows file m rs′ ks′ .fresh) ≡
+      stateOf (downRows file (suc m) rs ks .rows) (downRows file (suc m) rs ks .keys) (f || downRows file (suc m) rs ks .fresh)
+  unfolding downRows
+  down-step m rs ks rs′ ks′ f g w = rw (← w, or-joined f g (downRows file m rs′ ks′ .fresh)) refl
+
+  pub down-more : (r : ℕ) (rs ks rs′ ks′ : List ℕ) (f g : Bool) {t : State} → 0 < r →
+      stateOf (downRows file r rs ks .rows) (downRows file r rs ks .keys) (f || downRows file r rs ks .fresh) ≡ t →
+      stateOf rs′ ks′ g ≡ reopenRow file rs ks (r - 1) →
+      stateOf (downRows file (r - 1) rs′ ks′ .rows) (downRows file (r - 1) rs′ ks′ .keys) ((f || g) || downRows file (r - 1) rs′ ks′ .fresh) ≡ t
+  down-more r rs ks rs′ ks′ f g l e q =
+      let p : suc (r - 1) ≡ r = omega arith in
+      down-step (r - 1) rs ks rs′ ks′ f g q ∙ rw p e
+
+  or-none : (a : Bool) → (a || false) ≡ a
+  or-none true = refl
+  or-none false = refl
+
+  pub down-end : (r : ℕ) (rs ks : List ℕ) (f : Bool) {t : State} → r ≡ 0 →
+      stateOf (downRows file r rs ks .rows) (downRows file r rs ks .keys) (f || downRows file r rs ks .fresh) ≡ t → stateOf rs ks f ≡ t
+  unfolding downRows
+  down-end r rs ks f z e = rw (z, or-none f) at e
+
+  pub pass-both : (n : ℕ) (rows keys rs ks rs′ ks′ : List ℕ) (f g : Bool) → stateOf rs ks f ≡ downRows file n rows keys →
+      stateOf rs′ ks′ g ≡ upRows file n rs ks → stateOf rs′ ks′ (f || g) ≡ passRows file n rows keys
   unfolding passRows
-  pass-more r rows keys rs ks rs′ ks′ f g e q = rw (add-one, ← e, ← q)
+  pass-both n rows keys rs ks rs′ ks′ f g d u = rw (← d, ← u) refl
 
   pub keys-more : (a : ℕ) (keys ks ks′ : List ℕ) → ks ≡ startKeys file a keys →
       ks′ ≡ choose (compromisedIn file a) (know ks (64 + a)) ks → ks′ ≡ startKeys file (a + 1) keys

@@ -13,7 +13,7 @@ use Rattle.trace.specs.Promises.{Promised}
 use Rattle.trace.proofs.Both.{refuted}
 use Rattle.trace.proofs.First.{bool-cases, lt-suc}
 use Rattle.trace.proofs.Refusal.{or-false, or-false-right}
-use Rattle.spy.specs.Closure.{State, rowMarked, bothSides, learnRow, reopenRow, passRows, settle, seeRow}
+use Rattle.spy.specs.Closure.{State, rowMarked, bothSides, learnRow, reopenRow, upRows, downRows, passRows, settle, seeRow}
 use Rattle.spy.proofs.Marks.{Marked, Known}
 use Rattle.spy.proofs.Grew.{Held, Grew, grew-still, grew-then, sides-at, Closed, closed-same, learns, both-grew}
 
@@ -63,7 +63,7 @@ module _ (file : List ℕ) (P : Promised file) where
   abbrev pub AllClosed : List ℕ → List ℕ → Type 0
   AllClosed rs ks = (x : ℕ) → x < rowsOf file → Closed file P rs ks x
 
-  reopen-grew : (rs ks : List ℕ) (r : ℕ) → length rs ≡ 1024 → length ks ≡ 128 → r < rowsOf file →
+  pub reopen-grew : (rs ks : List ℕ) (r : ℕ) → length rs ≡ 1024 → length ks ≡ 128 → r < rowsOf file →
       Grew file P rs ks (reopenRow file rs ks r) ×
       (reopenRow file rs ks r .fresh ≡ false → Closed file P (reopenRow file rs ks r .rows) (reopenRow file rs ks r .keys) r)
   reopen-grew rs ks r rr kr l = go (bool-cases (rowMarked rs r))
@@ -77,14 +77,14 @@ module _ (file : List ℕ) (P : Promised file) where
           (b .0, λ e. closed-same file P rs ks (bothSides (learnRow file r) rs ks r (sides-at file P rs ks r)) (b .0) e r l (b .1) (b .2))
       go (inr u) = rw (u, reopenRow) (grew-still file P rs ks rr kr, λ e m. absurd (true≢false (sym m ∙ u)))
 
-  pub pass-grew : (n : ℕ) (rs ks : List ℕ) → n ≤ rowsOf file → length rs ≡ 1024 → length ks ≡ 128 →
-      Grew file P rs ks (passRows file n rs ks) ×
-      (passRows file n rs ks .fresh ≡ false → (x : ℕ) → x < n → Closed file P (passRows file n rs ks .rows) (passRows file n rs ks .keys) x)
-  unfolding passRows
-  pass-grew zero rs ks h r k = (grew-still file P rs ks r k, λ e x l. absurd (omega arith))
-  pass-grew (suc n) rs ks h r k =
-      let s = passRows file n rs ks in
-      let g = pass-grew n rs ks (omega arith) r k in
+  pub up-grew : (n : ℕ) (rs ks : List ℕ) → n ≤ rowsOf file → length rs ≡ 1024 → length ks ≡ 128 →
+      Grew file P rs ks (upRows file n rs ks) ×
+      (upRows file n rs ks .fresh ≡ false → (x : ℕ) → x < n → Closed file P (upRows file n rs ks .rows) (upRows file n rs ks .keys) x)
+  unfolding upRows
+  up-grew zero rs ks h r k = (grew-still file P rs ks r k, λ e x l. absurd (omega arith))
+  up-grew (suc n) rs ks h r k =
+      let s = upRows file n rs ks in
+      let g = up-grew n rs ks (omega arith) r k in
       let t = reopenRow file (s .rows) (s .keys) n in
       let q = reopen-grew (s .rows) (s .keys) n (g .0 .room) (g .0 .room-keys) (omega arith) in (
         grew-then file P (g .0) (q .0),
@@ -92,6 +92,25 @@ module _ (file : List ℕ) (P : Promised file) where
             ⊎-elim (λ (lx : x < n). q .0 .closed (or-false-right (s .fresh) (t .fresh) e) x (omega arith) (g .1 (or-false (s .fresh) (t .fresh) e) x lx))
             (λ (ex : x ≡ n). rw ex (q .1 (or-false-right (s .fresh) (t .fresh) e))) (lt-suc x n l),
       )
+
+  pub down-grew : (n : ℕ) (rs ks : List ℕ) → n ≤ rowsOf file → length rs ≡ 1024 → length ks ≡ 128 → Grew file P rs ks (downRows file n rs ks)
+  unfolding downRows
+  down-grew zero rs ks h r k = grew-still file P rs ks r k
+  down-grew (suc n) rs ks h r k =
+      let s = reopenRow file rs ks n in
+      let q = reopen-grew rs ks n r k (omega arith) .0 in
+      grew-then file P q (down-grew n (s .rows) (s .keys) (omega arith) (q .room) (q .room-keys))
+
+  pub pass-grew : (n : ℕ) (rs ks : List ℕ) → n ≤ rowsOf file → length rs ≡ 1024 → length ks ≡ 128 →
+      Grew file P rs ks (passRows file n rs ks) ×
+      (passRows file n rs ks .fresh ≡ false → (x : ℕ) → x < n → Closed file P (passRows file n rs ks .rows) (passRows file n rs ks .keys) x)
+  unfolding passRows
+  pass-grew n rs ks h r k =
+      let s = downRows file n rs ks in
+      let t = upRows file n (s .rows) (s .keys) in
+      let g = down-grew n rs ks h r k in
+      let u = up-grew n (s .rows) (s .keys) h (g .room) (g .room-keys) in
+      (grew-then file P g (u .0), λ e x l. u .1 (or-false-right (s .fresh) (t .fresh) e) x l)
 
   -- what settling keeps, and how it ends
   pub record Settled (rs ks : List ℕ) (t : State) : Type 0 where

@@ -20,11 +20,11 @@ use Rattle.trace.specs.declared.Row.{Row}
 use Rattle.trace.specs.declared.Row.the-variants.{Crypt}
 use Rattle.trace.proofs.First.{bool-cases}
 use Rattle.trace.proofs.Both.{both}
-use Rattle.spy.specs.Closure.{State, stateOf, rowMarked, know, knowRow, opensRow, opens, sidesOf, below, bothSides, learnWith, learnRow, reopenRow, passRows, settle, seeRow}
+use Rattle.spy.specs.Closure.{State, stateOf, rowMarked, know, knowRow, opensRow, opens, sidesOf, below, bothSides, learnWith, learnRow, reopenRow, upRows, downRows, passRows, settle, seeRow}
 use Rattle.spy.specs.declared.closure.Sides.{Sides}
 use Rattle.spy.proofs.Marks.{Marked, Known, row-other, know-other}
 use Rattle.spy.proofs.Grew.{sides-at, learns, below-grew, both-grew}
-use Rattle.spy.proofs.Passes.{pass-grew}
+use Rattle.spy.proofs.Passes.{reopen-grew, up-grew, down-grew, pass-grew}
 
 module _ (file : List ℕ) (P : Promised file) (H : paper.msg → Type 0) where
   pub record Sound (rs ks : List ℕ) : Type 0 where
@@ -187,14 +187,31 @@ module _ (file : List ℕ) (P : Promised file) (H : paper.msg → Type 0) where
           rw (m, reopenRow) (both-sound r (sounds r) r l (omega arith) rs ks (sides-at file P rs ks r) rr kr s (p .0) (p .1))
       go (inr u) = rw (u, reopenRow) s
 
+  up-sound : (n : ℕ) (rs ks : List ℕ) → n ≤ rowsOf file → length rs ≡ 1024 → length ks ≡ 128 → Sound rs ks →
+      Sound (upRows file n rs ks .rows) (upRows file n rs ks .keys)
+  unfolding upRows
+  up-sound zero rs ks h r k s = s
+  up-sound (suc n) rs ks h r k s =
+      let p = upRows file n rs ks in
+      let g = up-grew file P n rs ks (omega arith) r k .0 in
+      reopen-sound (p .rows) (p .keys) n (g .room) (g .room-keys) (omega arith) (up-sound n rs ks (omega arith) r k s)
+
+  down-sound : (n : ℕ) (rs ks : List ℕ) → n ≤ rowsOf file → length rs ≡ 1024 → length ks ≡ 128 → Sound rs ks →
+      Sound (downRows file n rs ks .rows) (downRows file n rs ks .keys)
+  unfolding downRows
+  down-sound zero rs ks h r k s = s
+  down-sound (suc n) rs ks h r k s =
+      let t = reopenRow file rs ks n in
+      let g = reopen-grew file P rs ks n r k (omega arith) .0 in
+      down-sound n (t .rows) (t .keys) (omega arith) (g .room) (g .room-keys) (reopen-sound rs ks n r k (omega arith) s)
+
   pass-sound : (n : ℕ) (rs ks : List ℕ) → n ≤ rowsOf file → length rs ≡ 1024 → length ks ≡ 128 → Sound rs ks →
       Sound (passRows file n rs ks .rows) (passRows file n rs ks .keys)
   unfolding passRows
-  pass-sound zero rs ks h r k s = s
-  pass-sound (suc n) rs ks h r k s =
-      let p = passRows file n rs ks in
-      let g = pass-grew file P n rs ks (omega arith) r k .0 in
-      reopen-sound (p .rows) (p .keys) n (g .room) (g .room-keys) (omega arith) (pass-sound n rs ks (omega arith) r k s)
+  pass-sound n rs ks h r k s =
+      let d = downRows file n rs ks in
+      let g = down-grew file P n rs ks h r k in
+      up-sound n (d .rows) (d .keys) h (g .room) (g .room-keys) (down-sound n rs ks h r k s)
 
   settle-sound : (d : ℕ) (t : State) → length (t .rows) ≡ 1024 → length (t .keys) ≡ 128 → Sound (t .rows) (t .keys) →
       Sound (settle file d t .rows) (settle file d t .keys)

@@ -122,11 +122,26 @@ reopenRow file rows keys r =
       | false ↦ stateOf rows keys false
     ]
 
-unfoldable pub passRows : List ℕ → ℕ → (rows keys : List ℕ) → State
-passRows file zero rows keys = stateOf rows keys false
-passRows file (suc n) rows keys =
-    let s = passRows file n rows keys in
+-- over the first n rows, from the lowest up and from the highest down
+unfoldable pub upRows : List ℕ → ℕ → (rows keys : List ℕ) → State
+upRows file zero rows keys = stateOf rows keys false
+upRows file (suc n) rows keys =
+    let s = upRows file n rows keys in
     let t = reopenRow file (s .rows) (s .keys) n in
+    stateOf (t .rows) (t .keys) (s .fresh || t .fresh)
+
+unfoldable pub downRows : List ℕ → ℕ → (rows keys : List ℕ) → State
+downRows file zero rows keys = stateOf rows keys false
+downRows file (suc n) rows keys =
+    let s = reopenRow file rows keys n in
+    let t = downRows file n (s .rows) (s .keys) in
+    stateOf (t .rows) (t .keys) (s .fresh || t .fresh)
+
+-- one pass is both, so that a chain of keys opens at once in either order
+unfoldable pub passRows : List ℕ → ℕ → (rows keys : List ℕ) → State
+passRows file n rows keys =
+    let s = downRows file n rows keys in
+    let t = upRows file n (s .rows) (s .keys) in
     stateOf (t .rows) (t .keys) (s .fresh || t .fresh)
 
 -- passes over all rows, as long as a key became known in the last one

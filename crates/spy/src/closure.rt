@@ -12,7 +12,7 @@ ghost use Prim.Native.Nat.{suc, _+_};
 ghost use Rattle.trace.specs.File.{rowsOf, compromisedIn};
 ghost use Rattle.trace.specs.Rows.{choose, rowAt};
 ghost use Rattle.trace.specs.Events.{eventAt};
-ghost use Rattle.spy.specs.Closure.{stateOf, rowMarked, keyMarked, know, knowRow, opens, noSides, sidesOf, opened, below, learnRow, reopenRow, passRows, seeRow, seeEvent, startKeys, keyKnown, markRow, startRows};
+ghost use Rattle.spy.specs.Closure.{stateOf, rowMarked, keyMarked, know, knowRow, opens, noSides, sidesOf, opened, below, learnRow, reopenRow, upRows, downRows, passRows, seeRow, seeEvent, startKeys, keyKnown, markRow, startRows};
 
 const ROWS: u16 = 1024;
 
@@ -209,10 +209,10 @@ fn reopen(file: &[u8], rows: &mut [u8; 1024], keys: &mut [u8; 128], r: u16) -> b
     }
 }
 
-// One pass over the rows; tells whether a key became known.
-fn pass(file: &[u8], rows: &mut [u8; 1024], keys: &mut [u8; 128], n: u16) -> bool
+// From the lowest row up; tells whether a key became known.
+fn pass_up(file: &[u8], rows: &mut [u8; 1024], keys: &mut [u8; 128], n: u16) -> bool
     ensures { λ f. ⌜ stateOf (now (rows .exit)) (now (keys .exit)) f ≡
-        passRows (now (file .entry)) n (now (rows .entry)) (now (keys .entry)) ⌝ }
+        upRows (now (file .entry)) n (now (rows .entry)) (now (keys .entry)) ⌝ }
 {
     let mut fresh = false;
     let mut r: u16 = 0;
@@ -222,6 +222,31 @@ fn pass(file: &[u8], rows: &mut [u8; 1024], keys: &mut [u8; 128], n: u16) -> boo
         r += 1;
     }
     fresh
+}
+
+// From the highest row down.
+fn pass_down(file: &[u8], rows: &mut [u8; 1024], keys: &mut [u8; 128], n: u16) -> bool
+    ensures { λ f. ⌜ stateOf (now (rows .exit)) (now (keys .exit)) f ≡
+        downRows (now (file .entry)) n (now (rows .entry)) (now (keys .entry)) ⌝ }
+{
+    let mut fresh = false;
+    let mut r: u16 = n;
+    while 0 < r {
+        r -= 1;
+        let opened = reopen(file, rows, keys, r);
+        fresh = fresh | opened;
+    }
+    fresh
+}
+
+// One pass over the rows, down and up: a chain of keys opens at once in either order.
+fn pass(file: &[u8], rows: &mut [u8; 1024], keys: &mut [u8; 128], n: u16) -> bool
+    ensures { λ f. ⌜ stateOf (now (rows .exit)) (now (keys .exit)) f ≡
+        passRows (now (file .entry)) n (now (rows .entry)) (now (keys .entry)) ⌝ }
+{
+    let down = pass_down(file, rows, keys, n);
+    let up = pass_up(file, rows, keys, n);
+    down | up
 }
 
 // A row is seen. A pass that finds a key marks its row, so there are at most as many passes as rows.

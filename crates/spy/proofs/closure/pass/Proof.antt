@@ -1,44 +1,13 @@
--- `spy::closure::pass` meets its contract: one turn more is one row more of `passRows`.
+-- `spy::closure::pass` meets its contract: it is both ways over the rows, one after the other.
 -- Assumes nothing.
-use Prim.Native.Nat.{_≤_, _-_}
-use mathlib.Core.Path.{_≡_}
-use native.Mathlib.Omega.{arith}
-use Rattle.spy.specs.Closure.{stateOf, passRows}
-use Rattle.spy.proofs.Folds.{pass-none, pass-more}
+use denote.Ref.{now}
+use Rattle.spy.proofs.Folds.{pass-both}
+use borrow.Author.Needs.{needs}
 use Rattle.spy.proofs.closure.pass.Statement.{statement}
 use Rattle.spy.proofs.closure.pass.Tie as tie
 
-abbrev Inv-loop : tie.InvT-loop
-Inv-loop file rows₀ keys₀ n fresh₀ r₀ rows keys fresh r = (r ≤ n) × (stateOf rows keys fresh ≡ passRows file r rows₀ keys₀)
-
-abbrev μ-loop : tie.MeasureT-loop
-μ-loop file rows₀ keys₀ n fresh₀ r₀ rows keys fresh r = n - r
-
-loop-holds : tie.Need-loop-holds Inv-loop μ-loop
-loop-holds c = (omega arith, pass-none _ _ _)
-
-reopen-requires : tie.Need-reopen-requires Inv-loop μ-loop
-reopen-requires c κs = tt
-
-add-r : tie.Need-add-r Inv-loop μ-loop
-add-r c = omega arith
-
-loop-less : tie.Need-loop-less Inv-loop μ-loop
-loop-less c = omega arith
-
-loop-again : tie.Need-loop-again Inv-loop μ-loop
-loop-again c =
-    let l = c .before .before .before .before .loop in
-    (omega arith, pass-more _ (l .r) _ _ (l .rows) (l .keys) _ _ (l .fresh) (c .reopen .result) (l .inv .1) (c .reopen .ensures))
-
-returns : tie.Need-returns Inv-loop μ-loop
-returns c =
-    let a = c .before .before .before .args in
-    let l = c .before .loop in
-    let e : l .r ≡ a .n = omega arith in
-    rw (← e) (l .inv .1)
+returns : tie.Need-returns
+returns c = pass-both _ _ _ _ _ _ _ _ _ _ (c .before .before .before .pass-down .ensures) (c .pass-up .ensures)
 
 pub pass-spec : {M : Type 1} → statement M
-pass-spec =
-    tie.close
-    (tie.spec Inv-loop μ-loop loop-holds reopen-requires add-r loop-less loop-again returns)
+pass-spec = tie.close (tie.spec (λ c κs. search needs) (λ c κs. search needs) returns)
