@@ -1,25 +1,16 @@
 -- A message whose outer pair or nonce is another one is not the hello or the reply that is looked for.
 -- Assumes nothing.
 use Prim.Native.Nat.{ℕ}
-use mathlib.Core.Bool.{Bool, true, false, _&&_, true≢false}
+use mathlib.Core.Bool.{Bool, true, false, _&&_}
 use mathlib.Core.List.{List}
-use mathlib.Core.Logic.{_⊎_, inl, inr}
-use mathlib.Core.Path.{_≡_, refl, sym, _∙_}
+use mathlib.Core.Path.{_≡_, refl, sym}
 use lib.Dec.{eqb}
-use Rattle.trace.proofs.First.{bool-cases}
 use Rattle.trace.proofs.Both.{both, both4}
 use Rattle.forms.specs.Kinds.{pairOf, agentOf, isNonce, isNumber}
 use Rattle.forms.specs.Forms.{threeOf, fourOf, helloOf, replyOf}
 use Rattle.forms.proofs.Flags.{both5}
+use Rattle.forms.proofs.Keyed.{gated}
 use Rattle.earlier.specs.Earlier.{isHello, isReply}
-
--- a test that fails without its gate
-gated : (x gate : Bool) → (x ≡ true → gate ≡ true) → gate ≡ false → false ≡ x
-gated x gate needed g = go (bool-cases x)
-  where
-    go : (x ≡ true) ⊎ (x ≡ false) → false ≡ x
-    go (inl t) = absurd (true≢false (sym (needed t) ∙ g))
-    go (inr f) = sym f
 
 both-hold : {a b : Bool} → a ≡ true → b ≡ true → (a && b) ≡ true
 both-hold p q = rw (p, q) refl
@@ -28,7 +19,7 @@ pub other-hello : (file : List ℕ) (r agent na sid pa : ℕ) →
     (pairOf file r .is && eqb (pairOf file (pairOf file r .second) .first) na) ≡ false → false ≡ isHello file r agent na sid pa
 unfolding helloOf fourOf threeOf
 other-hello file r agent na sid pa =
-    gated (isHello file r agent na sid pa) (pairOf file r .is && eqb (pairOf file (pairOf file r .second) .first) na) needed
+    λ g. sym (gated (isHello file r agent na sid pa) (pairOf file r .is && eqb (pairOf file (pairOf file r .second) .first) na) needed g)
   where
     needed : isHello file r agent na sid pa ≡ true →
         (pairOf file r .is && eqb (pairOf file (pairOf file r .second) .first) na) ≡ true
@@ -46,7 +37,7 @@ pub other-reply : (file : List ℕ) (r nb sid pb : ℕ) → (pairOf file r .is &
     false ≡ isReply file r nb sid pb
 unfolding replyOf threeOf
 other-reply file r nb sid pb =
-    gated (isReply file r nb sid pb) (pairOf file r .is && eqb (pairOf file r .first) nb) needed
+    λ g. sym (gated (isReply file r nb sid pb) (pairOf file r .is && eqb (pairOf file r .first) nb) needed g)
   where
     needed : isReply file r nb sid pb ≡ true → (pairOf file r .is && eqb (pairOf file r .first) nb) ≡ true
     needed t =

@@ -1,3 +1,4 @@
 pub mod Meant
 pub mod Premises
 pub mod Gates
+pub mod Chains

@@ -159,3 +159,10 @@ module _ (file : List ℕ) (P : Promised file) (e : ℕ) (le : e ≤ eventsOf fi
           let t = notes-told file (eventAt file j) q in
           let f = eq-eqb (heardAt file j .from) A (t .1) in
           record { at = j; before = l; row = row-in j l; by = rw (t .0, f) refl; meant = t .2 }
+
+module _ (file : List ℕ) (P : Promised file) (e : ℕ) (le : e < eventsOf file) where
+  pub not-later : e ≤ eventsOf file
+  not-later = omega (arith, le)
+
+  pub here-row : heardAt file e .row < rowsOf file
+  here-row = row-exists file (eventAt file e) (P .exists e le)

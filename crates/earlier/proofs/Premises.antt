@@ -7,8 +7,8 @@ use mathlib.Core.Path.{_≡_, refl, sym, _∙_, ap}
 use lib.Dec.{eqb}
 use borrow.Author.Tests.{eqb-true, eq-eqb}
 use Rattle.paper.specs.Message as paper
-use Rattle.paper.specs.Event.{In, Says, Notes}
-use Rattle.paper.specs.Rules.{CH, SH, cert, secretNote, carried, sessionNote}
+use Rattle.paper.specs.Event.{event, trace, In, Says, Notes}
+use Rattle.paper.specs.Rules.{Step, CH, SH, cert, secretNote, carried, sessionNote}
 use Rattle.trace.specs.File.{rowsOf, eventsOf}
 use Rattle.trace.specs.Events.{eventAt}
 use Rattle.trace.specs.Meaning.{message, beginning, asNonce, asKey}
@@ -44,7 +44,19 @@ nonce-one q = ap asNonce q
 pub key-one : {a b : paper.key} → paper.Key a ≡ paper.Key b → a ≡ b
 key-one q = ap asKey q
 
--- equal parts make equal messages
+-- equal parts make equal messages and events
+pub crypt-same : {K K′ : paper.key} {X X′ : paper.msg} → K ≡ K′ → X ≡ X′ → paper.Crypt K X ≡ paper.Crypt K′ X′
+crypt-same k x = rw (k, x) refl
+
+pub event-same : {b : paper.agent → Type 0} {evs : trace} {E E′ : event} {k : ℕ} → E ≡ E′ → Step b evs E′ k → Step b evs E k
+event-same q s = rw q s
+
+pub says-same : {A A′ B B′ : paper.agent} {X X′ : paper.msg} → A ≡ A′ → B ≡ B′ → X ≡ X′ → Says A B X ≡ Says A′ B′ X′
+says-same a b x = rw (a, b, x) refl
+
+pub notes-same : {A A′ : paper.agent} {X X′ : paper.msg} → A ≡ A′ → X ≡ X′ → Notes A X ≡ Notes A′ X′
+notes-same a x = rw (a, x) refl
+
 pub hello-same : {A A′ : paper.agent} {Na Na′ : paper.nonce} {S S′ Q Q′ : ℕ} → A ≡ A′ → Na ≡ Na′ → S ≡ S′ → Q ≡ Q′ →
     CH A Na S Q ≡ CH A′ Na′ S′ Q′
 hello-same a n s q = rw (a, n, s, q) refl

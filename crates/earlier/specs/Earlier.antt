@@ -1,6 +1,6 @@
 -- What a rule looks for among earlier events, as the code tests it: whole events, each with exactly that message.
 use Prim.Native.Nat.{ℕ}
-use mathlib.Core.Bool.{Bool, true, false, _&&_, not}
+use mathlib.Core.Bool.{Bool, true, false, _&&_, _||_, not}
 use mathlib.Core.List.{List}
 use lib.Dec.{eqb}
 use Rattle.trace.specs.First.{any}
@@ -11,7 +11,7 @@ use Rattle.forms.specs.Kinds.{cryptOf, publicOf}
 use Rattle.forms.specs.Forms.{helloOf, replyOf, keptOf, signedOf, rememberedOf}
 use Rattle.earlier.specs.declared.Heard.{Heard}
 use Rattle.earlier.specs.declared.Wanted.{Wanted}
-use Rattle.earlier.specs.declared.Wanted.the-variants.{HelloFor, HelloBy, HelloTo, ReplyWith, ReplyTo, ReplyBy, Cert, Secret, Sent, Session, Under}
+use Rattle.earlier.specs.declared.Wanted.the-variants.{HelloFor, HelloBy, HelloTo, ReplyWith, ReplyTo, ReplyBy, Cert, Secret, Sent, Session, Under, Again}
 
 -- an event, flat
 abbrev pub heardIn : Event → Heard
@@ -41,6 +41,10 @@ isReply file r nb sid pb =
     let m = replyOf file r in
     m .is && eqb (m .nb) nb && eqb (m .sid) sid && eqb (m .pb) pb
 
+abbrev pub sameHeard : Heard → Heard → Bool
+sameHeard h g =
+    ((h .says && g .says) || (not (h .says) && not (g .says))) && eqb (h .from) (g .from) && eqb (h .to) (g .to) && eqb (h .row) (g .row)
+
 abbrev pub fitsIn : List ℕ → Wanted → Heard → Bool
 fitsIn file (HelloFor to agent sid) h =
     let m = helloOf file (h .row) in
@@ -68,7 +72,11 @@ fitsIn file (Session from sid a b m) h =
 fitsIn file (Under from key) h =
     let c = cryptOf file (h .row) in
     (h .says && eqb (h .from) from) && (c .is && eqb (c .first) key)
+fitsIn file (Again g) h = sameHeard h g
 
 -- some event before e fits
 unfoldable pub earlier : List ℕ → Wanted → ℕ → Bool
 earlier file wanted e = any (λ j. fitsIn file wanted (heardAt file j)) e
+
+abbrev pub past : List ℕ → ℕ → Wanted → Bool
+past file e wanted = earlier file wanted e

@@ -1,9 +1,12 @@
 // One search over earlier events, for what any rule looks for.
+pub mod boxes;
+
 use trace::Event;
 use trace::EventNo;
 ghost use mathlib.Core.Path.{_≡_};
-ghost use Rattle.earlier.specs.Earlier.{heardAt, saidTo, saidBy, notedBy, isHello, isReply, fitsIn, earlier};
-ghost use Rattle.earlier.specs.declared.Wanted.the-variants.{HelloFor, HelloBy, HelloTo, ReplyWith, ReplyTo, ReplyBy, Cert, Secret, Sent, Session, Under};
+ghost use Rattle.earlier.specs.Earlier.{heardAt, saidTo, saidBy, notedBy, isHello, isReply, sameHeard, fitsIn, earlier};
+ghost use Rattle.earlier.specs.Boxes.{found};
+ghost use Rattle.earlier.specs.declared.Wanted.the-variants.{HelloFor, HelloBy, HelloTo, ReplyWith, ReplyTo, ReplyBy, Cert, Secret, Sent, Session, Under, Again};
 
 // An event, flat: a note has no receiver.
 pub struct Heard {
@@ -37,6 +40,8 @@ pub enum Wanted {
     Session(u16, u16, u16, u16, u16),
     // A said something under a key to anyone: A, the key.
     Under(u16, u16),
+    // An event that equals this one.
+    Again(Heard),
 }
 
 pub fn hear(file: &[u8], e: u16) -> Heard
@@ -232,6 +237,15 @@ fn reply_by(file: &[u8], h: Heard, from: u16, to: u16, nb: u16, sid: u16, pb: u1
     }
 }
 
+fn same_heard(h: Heard, g: Heard) -> bool
+    ensures { λ b. ⌜ b ≡ sameHeard h g ⌝ }
+{
+    ((h.says & g.says) | (!h.says & !g.says))
+        & (h.from == g.from)
+        & (h.to == g.to)
+        & (h.row == g.row)
+}
+
 // Whether event e is what is wanted.
 fn fits(file: &[u8], wanted: Wanted, e: u16) -> bool
     ensures { λ b. ⌜ b ≡ fitsIn (now (file .entry)) wanted (heardAt (now (file .entry)) e) ⌝ }
@@ -249,12 +263,12 @@ fn fits(file: &[u8], wanted: Wanted, e: u16) -> bool
         Wanted::Sent(to, secret) => exchanged(file, h, to, secret),
         Wanted::Session(from, sid, a, b, m) => remembered(file, h, from, sid, a, b, m),
         Wanted::Under(from, key) => closed(file, h, from, key),
+        Wanted::Again(g) => same_heard(h, g),
     }
 }
 
-// Whether some event before e is what is wanted: the latest first, since a handshake's events stand close together. The message is
-// read only where sender and receiver fit.
-pub fn happened(file: &[u8], wanted: Wanted, e: u16) -> bool
+// Whether some event before e is what is wanted, in whatever box.
+fn look_back(file: &[u8], wanted: Wanted, e: u16) -> bool
     ensures { λ b. ⌜ b ≡ earlier (now (file .entry)) wanted e ⌝ }
 {
     let mut j = e;
@@ -266,4 +280,16 @@ pub fn happened(file: &[u8], wanted: Wanted, e: u16) -> bool
         }
     }
     false
+}
+
+// Whether some event before e is what is wanted. The message is read only where sender and receiver fit.
+pub fn happened(file: &[u8], boxes: &[u16; 640], wanted: Wanted, e: u16) -> bool
+    ensures { λ b. ⌜ b ≡ found (now (file .entry)) (now (boxes .entry)) e wanted ⌝ }
+{
+    let at = boxes::box_for(wanted) as usize;
+    if at < boxes::BOXES {
+        boxes::search(file, boxes, wanted, boxes[at])
+    } else {
+        look_back(file, wanted, e)
+    }
 }

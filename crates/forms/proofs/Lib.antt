@@ -4,3 +4,4 @@ pub mod Links
 pub mod Greetings
 pub mod Seals
 pub mod Shaped
+pub mod Keyed

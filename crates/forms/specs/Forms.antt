@@ -1,8 +1,9 @@
 -- The shapes that the rules name, as the code reads them from rows: a flag, and fields that mean nothing unless it is true.
 use Prim.Native.Nat.{ℕ}
-use mathlib.Core.Bool.{_&&_}
+use mathlib.Core.Bool.{Bool, not, _&&_}
 use mathlib.Core.List.{List}
 use lib.Dec.{eqb}
+use Rattle.trace.specs.Rows.{choose}
 use Rattle.paper.specs.Message.{Authority}
 use Rattle.forms.specs.declared.leaves.Three.{Three}
 use Rattle.forms.specs.declared.chains.Four.{Four}
@@ -160,6 +161,13 @@ sealedOf file r =
       pb = g .pb;
       b = g .b;
     }
+
+-- row r is a Crypt under a session key of that side
+abbrev pub underKey : List ℕ → ℕ → Bool → Bool
+underKey file r server =
+    let c = cryptOf file r in
+    let s = sessionOf file (c .first) in
+    c .is && s .is && choose server (s .server) (not (s .server))
 
 -- {PRF(M, Na, Nb), a session key of the same Na, Nb and M}, of either role.
 unfoldable pub derivedOf : List ℕ → ℕ → Derived

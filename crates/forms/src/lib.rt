@@ -4,7 +4,9 @@ pub mod chains;
 pub mod leaves;
 
 ghost use mathlib.Core.Path.{_≡_};
-ghost use Rattle.forms.specs.Forms.{helloOf, replyOf, keptOf, signedOf, rememberedOf, agreementOf, sealedOf, derivedOf, verifiedOf};
+ghost use Rattle.forms.specs.Forms.{helloOf, replyOf, keptOf, signedOf, rememberedOf, agreementOf, sealedOf, underKey, derivedOf, verifiedOf};
+ghost use mathlib.Core.Bool.{not};
+ghost use Rattle.trace.specs.Rows.{choose};
 
 // Document 01: agent 1 signs certificates.
 const AUTHORITY: u16 = 1;
@@ -216,6 +218,23 @@ pub fn finished(file: &[u8], r: u16) -> Sealed
         pb: g.pb,
         b: g.b,
     }
+}
+
+// The role that is asked for.
+pub fn on_side(server: bool, is: bool) -> bool
+    ensures { λ b. ⌜ b ≡ choose server is (not is) ⌝ }
+{
+    if server { is } else { !is }
+}
+
+// Whether a row is a Crypt under a session key of that side, which every Finished is.
+pub fn under_key(file: &[u8], r: u16, server: bool) -> bool
+    ensures { λ b. ⌜ b ≡ underKey (now (file .entry)) r server ⌝ }
+{
+    let c = leaves::crypt_of(file, r);
+    let s = leaves::session_of(file, c.first);
+    let side = on_side(server, s.server);
+    (c.is) & (s.is) & side
 }
 
 // {PRF(M, Na, Nb), a session key of the same Na, Nb and M}, of either role.

@@ -8,7 +8,7 @@ use Rattle.trace.specs.First.{first, any}
 use Rattle.trace.specs.Rows.{lineOf, rowOf}
 use Rattle.trace.specs.Refusal.{reading, readItems}
 use Rattle.trace.specs.declared.Reading.the-variants.{Readable}
-use Rattle.spy.specs.Closure.{learnRow, upRows, downRows, passRows, settle, startKeys, startRows, knownAfter}
+use Rattle.closure.specs.Closure.{learnRow, upRows, downRows, passRows, settle, startKeys, startRows, knownAfter}
 use Rattle.spy.specs.Made.{writeMarks}
 use Rattle.spy.specs.Knowledge.{answerReadable, bytesReadable}
 use Rattle.spy.specs.declared.Answer.the-variants.{Written}
@@ -18,11 +18,12 @@ use Rattle.forms.specs.Kinds.{agentOf, publicOf, privateOf, hashOf, pairOf, cry
 use Rattle.forms.specs.Forms.{threeOf, fourOf, helloOf, replyOf, keptOf, signedOf, rememberedOf, agreementOf, sealedOf, derivedOf, verifiedOf}
 use Rattle.earlier.specs.Earlier.{earlier}
 use Rattle.rules.specs.Tests.{fake, spyKeys, clientHello, serverHello, certificate, keyExchange, certVerify, oops}
-use Rattle.sessions.specs.Tests.{clientFinished, serverFinished, bothFinished, clientAccepts, serverAccepts, clientResume, serverResume}
+use Rattle.finished.specs.Tests.{clientFinished, serverFinished, clientResume, serverResume}
+use Rattle.accepts.specs.Tests.{bothFinished, clientAccepts, serverAccepts}
+use Rattle.walk.specs.Walk.{walk, cleared}
+use Rattle.walk.specs.Lowest.{lowestNoted, lowestCrypt, lowestPlain, lowestSaid, lowestRule}
 use Rattle.judge.specs.declared.reply.Verdict.{Verdict}
-use Rattle.judge.specs.Walk.{walk}
-use Rattle.judge.specs.Lowest.{lowestNoted, lowestCrypt, lowestPlain, lowestSaid, lowestRule}
-use Rattle.judge.specs.Reply.{cleared, verdictReadable, rulesReadable}
+use Rattle.judge.specs.Reply.{verdictReadable, rulesReadable}
 use Rattle.judge.specs.Cases.{over, Case, verdict, knowledge, fileOf, buffer, Holds, P1, P2, P3, P4, P5, P6, P7, P7-set-9, P8, P9, P10, markedCases, All, none, also, MarkedCases}
 use Rattle.judge.proofs.Judges.{judged-readable}
 

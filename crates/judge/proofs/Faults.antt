@@ -22,7 +22,7 @@ use Rattle.trace.proofs.Refusal.{whole-length}
 use Rattle.trace.proofs.Told.{refusals}
 use Rattle.trace.proofs.Fault.{inside-within, nothing-inside, item-inside, faults-inside}
 use Rattle.trace.proofs.Promised.{promises}
-use Rattle.judge.specs.Reply.{walkFile}
+use Rattle.walk.specs.Walk.{walkFile}
 use Rattle.judge.specs.Promises.{OneFault}
 use Rattle.judge.specs.Faulted.{Faulted, refused, illegal, accepted, FaultPart}
 use Rattle.judge.proofs.Walk.{Ended}

@@ -6,7 +6,7 @@ use mathlib.Core.Logic.{_⊎_, inl, inr}
 use mathlib.Core.Path.{_≡_, refl, _∙_}
 use native.Mathlib.Omega.{arith}
 use native.Mathlib.Decide.{decLt}
-use lib.ListN.{length, getD, set, length-set}
+use lib.ListN.{length, getD, set}
 use lib.Seq.{getD-set-same, getD-set-other}
 use borrow.Author.Tests.{lt-ltb, le-ltb}
 use Rattle.trace.specs.File.{eventsOf}
@@ -15,20 +15,17 @@ use Rattle.trace.specs.declared.Cause.{Cause}
 use Rattle.trace.specs.declared.Reading as declared
 use Rattle.trace.proofs.First.{lt-suc}
 use Rattle.trace.proofs.Told.{refusals}
+use Rattle.trace.proofs.Promised.{promises}
+use Rattle.walk.specs.Walk.{Walked, cleared, walkFile}
+use Rattle.walk.specs.Lowest.{ruleOf, exchangeOf}
+use Rattle.walk.proofs.Paces.{cleared-length}
 use Rattle.judge.specs.Judged.{RuleBytes, Judged, refused, short, illegal, accepted}
-use Rattle.judge.specs.Walk.{Walked}
-use Rattle.judge.specs.Lowest.{ruleOf, exchangeOf}
-use Rattle.judge.specs.Reply.{cleared, walkFile, verdictAt, verdictReadable, rulesReadable}
+use Rattle.judge.specs.Reply.{verdictAt, verdictReadable, rulesReadable}
 use Rattle.judge.specs.declared.reply.Verdict.the-variants.{Refused}
 use Rattle.judge.proofs.Walk.{Ended, walked}
 use Rattle.judge.proofs.Least.{rule-least, exchange-sound, exchange-complete}
 
 -- the cleared buffer
-pub cleared-length : (n : ℕ) (bytes : List ℕ) → length (cleared n bytes) ≡ length bytes
-unfolding cleared
-cleared-length zero bytes = refl
-cleared-length (suc n) bytes = length-set (cleared n bytes) n 0 ∙ cleared-length n bytes
-
 pub cleared-zero : (n : ℕ) (bytes : List ℕ) (i : ℕ) → i < n → n ≤ length bytes → getD (cleared n bytes) i 0 ≡ 0
 unfolding cleared
 cleared-zero zero bytes i l room = absurd (omega arith)
@@ -47,12 +44,14 @@ cleared-rest (suc n) bytes i l = getD-set-other (cleared n bytes) n i 0 0 (omega
 pub walk-ended : (file : List ℕ) → reading file ≡ declared.the-variants.Readable → (bytes : List ℕ) → eventsOf file ≤ length bytes →
     Ended file 0 bytes (walkFile file bytes)
 walk-ended file r bytes room =
-    walked file (ruleOf file) (exchangeOf file)
+    let few : eventsOf file ≤ 512 = promises file r .few-events in
+    rw (le-ltb 512 (eventsOf file) few)
+    (walked file (ruleOf file) (exchangeOf file)
     (λ i l p. let f = rule-least file r i l in (f .fits p, f .least))
     (λ i l z. rule-least file r i l .none z)
     (λ i l t. exchange-sound file r i l t)
     (λ i l t. exchange-complete file r i l t)
-    bytes room
+    bytes room)
 
 pub judged-refused : (file before : List ℕ) {c : Cause} → reading file ≡ declared.the-variants.Refused c → Judged file before (Refused c) before
 judged-refused file before e = refused (rw e at (refusals .told file))

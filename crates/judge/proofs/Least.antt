@@ -21,21 +21,23 @@ use Rattle.trace.specs.declared.Reading.the-variants.{Readable}
 use Rattle.trace.proofs.First.{bool-cases}
 use Rattle.trace.proofs.Both.{both4, refuted}
 use Rattle.trace.proofs.Promised.{promises}
-use Rattle.spy.specs.Closure.{knownAfter}
+use Rattle.closure.specs.Closure.{knownAfter}
 use Rattle.used.specs.Marking.{usedAfter}
 use Rattle.forms.specs.Kinds.{cryptIn, pairIn, sessionIn, cryptOf, pairOf, sessionOf}
 use Rattle.forms.specs.Forms.{threeOf, fourOf, helloOf, replyOf, signedOf, sealedOf, verifiedOf}
 use Rattle.earlier.specs.declared.Heard.{Heard}
+use Rattle.earlier.specs.declared.Wanted.{Wanted}
 use Rattle.earlier.specs.declared.Wanted.the-variants.{Under}
-use Rattle.earlier.specs.Earlier.{heardAt, earlier}
+use Rattle.earlier.specs.Earlier.{heardAt, past}
 use Rattle.rules.specs.Tests.{fake, spyKeys, clientHello, serverHello, certificate, certVerify, oops}
 use Rattle.rules.proofs.Steps.{Rights, fake-sound, fake-complete, spy-keys-sound, spy-keys-complete, client-hello-sound, client-hello-complete, server-hello-sound, server-hello-complete, certificate-sound, certificate-complete, oops-sound, oops-complete}
 use Rattle.rules.proofs.Answers.{cert-verify-sound, cert-verify-complete, key-exchange-sound, key-exchange-complete}
-use Rattle.sessions.specs.Tests.{clientFinished, serverFinished, clientAccepts, serverAccepts, clientResume, serverResume}
-use Rattle.sessions.proofs.Finishes.{client-finished-sound, client-finished-complete, server-finished-sound, server-finished-complete, client-resume-sound, client-resume-complete, server-resume-sound, server-resume-complete}
-use Rattle.sessions.proofs.Accepts.{client-accepts-sound, client-accepts-complete, server-accepts-sound, server-accepts-complete}
+use Rattle.finished.specs.Tests.{clientFinished, serverFinished, clientResume, serverResume}
+use Rattle.accepts.specs.Tests.{bothFinished, clientAccepts, serverAccepts}
+use Rattle.finished.proofs.Finishes.{client-finished-sound, client-finished-complete, server-finished-sound, server-finished-complete, client-resume-sound, client-resume-complete, server-resume-sound, server-resume-complete}
+use Rattle.accepts.proofs.Accepts.{client-accepts-sound, client-accepts-complete, server-accepts-sound, server-accepts-complete}
+use Rattle.walk.specs.Lowest.{lowestNoted, lowestCrypt, lowestPlain, lowestSaid, lowestRule, ruleOf, exchangeOf}
 use Rattle.judge.specs.Judged.{Fits, Exchanged}
-use Rattle.judge.specs.Lowest.{lowestNoted, lowestCrypt, lowestPlain, lowestSaid, lowestRule, ruleOf, exchangeOf}
 use Rattle.judge.proofs.Right.{rights}
 
 -- n is the lowest number of which F holds, and 0 where F holds of none
@@ -111,41 +113,41 @@ unfolding cryptOf sessionOf
 no-session file r c = not-session (rowAt file r) c
 
 -- the tests in order, whatever the event is
-module _ (file used known : List ℕ) (e : ℕ) (h : Heard) where
+module _ (file used known : List ℕ) (find : Wanted → Bool) (both : Bool → (from to sid a b m na nb : ℕ) → Bool) (h : Heard) where
   unfoldable inOrder : ℕ
   inOrder =
       choose (fake file known h) 1 (choose (spyKeys file known h) 2 (choose (clientHello file used h) 3
-      (choose (serverHello file used e h) 4 (choose (certificate file h) 5 (choose (certVerify file e h) 7
-      (choose (clientFinished file e h) 8 (choose (serverFinished file e h) 9 (choose (clientAccepts file e h) 10
-      (choose (serverAccepts file e h) 11 (choose (clientResume file e h) 12 (choose (serverResume file e h) 13
-      (choose (oops file e h) 14 0))))))))))))
+      (choose (serverHello file used find h) 4 (choose (certificate file h) 5 (choose (certVerify file find h) 7
+      (choose (clientFinished file find h) 8 (choose (serverFinished file find h) 9 (choose (clientAccepts file find both h) 10
+      (choose (serverAccepts file find both h) 11 (choose (clientResume file find h) 12 (choose (serverResume file find h) 13
+      (choose (oops file find h) 14 0))))))))))))
 
   -- what the event is parts the tests: those that are left out fail
-  noted-in-order : h .says ≡ false → lowestRule file used known e h ≡ inOrder
+  noted-in-order : h .says ≡ false → lowestRule file used known find both h ≡ inOrder
   unfolding lowestRule lowestNoted inOrder fake clientHello serverHello certificate certVerify clientFinished serverFinished clientResume serverResume oops
   noted-in-order s = rw s refl
 
-  no-oops : cryptOf file (h .row) .is ≡ true → oops file e h ≡ false
+  no-oops : cryptOf file (h .row) .is ≡ true → oops file find h ≡ false
   unfolding oops
   no-oops c =
-      refuted (oops file e h)
+      refuted (oops file find h)
       (λ t. true≢false
-      (sym (both4 (h .says) (eqb (h .to) 0) (sessionOf file (h .row) .is) (earlier file (Under (h .from) (h .row)) e) t .2) ∙
+      (sym (both4 (h .says) (eqb (h .to) 0) (sessionOf file (h .row) .is) (find (Under (h .from) (h .row))) t .2) ∙
       no-session file (h .row) c))
 
-  crypt-in-order : h .says ≡ true → cryptOf file (h .row) .is ≡ true → lowestRule file used known e h ≡ inOrder
+  crypt-in-order : h .says ≡ true → cryptOf file (h .row) .is ≡ true → lowestRule file used known find both h ≡ inOrder
   unfolding lowestRule lowestSaid lowestCrypt inOrder spyKeys clientAccepts serverAccepts clientHello serverHello helloOf replyOf threeOf fourOf
   crypt-in-order s c = rw (no-oops c, s, c, no-pair file (h .row) c) refl
 
-  plain-in-order : h .says ≡ true → cryptOf file (h .row) .is ≡ false → lowestRule file used known e h ≡ inOrder
+  plain-in-order : h .says ≡ true → cryptOf file (h .row) .is ≡ false → lowestRule file used known find both h ≡ inOrder
   unfolding lowestRule lowestSaid lowestPlain inOrder spyKeys clientAccepts serverAccepts certificate certVerify clientFinished serverFinished clientResume serverResume signedOf verifiedOf sealedOf
   plain-in-order s c = rw (s, c) refl
 
-  rule-in-order : lowestRule file used known e h ≡ inOrder
+  rule-in-order : lowestRule file used known find both h ≡ inOrder
   rule-in-order = go (bool-cases (h .says)) (bool-cases (cryptOf file (h .row) .is))
     where
       go : (h .says ≡ true) ⊎ (h .says ≡ false) → (cryptOf file (h .row) .is ≡ true) ⊎ (cryptOf file (h .row) .is ≡ false) →
-          lowestRule file used known e h ≡ inOrder
+          lowestRule file used known find both h ≡ inOrder
       go (inl s) (inl c) = crypt-in-order s c
       go (inl s) (inr c) = plain-in-order s c
       go (inr s) d = noted-in-order s
@@ -170,23 +172,23 @@ module _ (file : List ℕ) (r : reading file ≡ Readable) (i : ℕ) (l : i < ev
   h = heardAt file i
 
   -- one test after another; no rule of one event has the number 6
-  in-order-least : Least F (inOrder file U K i h)
+  in-order-least : Least F (inOrder file U K (past file i) (bothFinished file i) h)
   unfolding inOrder
   in-order-least =
       try F (fake file K h) 1 (omega arith) (fake-sound file P i l U K R) (fake-complete file P i l U K R) (λ j f. rule-range f .0) (λ a2.
       try F (spyKeys file K h) 2 (omega arith) (spy-keys-sound file P i l U K R) (spy-keys-complete file P i l U K R) a2 (λ a3.
       try F (clientHello file U h) 3 (omega arith) (client-hello-sound file P i l U K R) (client-hello-complete file P i l U K R) a3 (λ a4.
-      try F (serverHello file U i h) 4 (omega arith) (server-hello-sound file P i l U K R) (server-hello-complete file P i l U K R) a4 (λ a5.
+      try F (serverHello file U (past file i) h) 4 (omega arith) (server-hello-sound file P i l U K R) (server-hello-complete file P i l U K R) a4 (λ a5.
       try F (certificate file h) 5 (omega arith) (certificate-sound file P i l U K R) (certificate-complete file P i l U K R) a5 (λ a6.
-      try F (certVerify file i h) 7 (omega arith) (cert-verify-sound file P i l) (cert-verify-complete file P i l)
+      try F (certVerify file (past file i) h) 7 (omega arith) (cert-verify-sound file P i l) (cert-verify-complete file P i l)
       (above-next F 6 (λ f. rule-range f .2 refl) a6) (λ a8.
-      try F (clientFinished file i h) 8 (omega arith) (client-finished-sound file P i l) (client-finished-complete file P i l) a8 (λ a9.
-      try F (serverFinished file i h) 9 (omega arith) (server-finished-sound file P i l) (server-finished-complete file P i l) a9 (λ a10.
-      try F (clientAccepts file i h) 10 (omega arith) (client-accepts-sound file P i l) (client-accepts-complete file P i l) a10 (λ a11.
-      try F (serverAccepts file i h) 11 (omega arith) (server-accepts-sound file P i l) (server-accepts-complete file P i l) a11 (λ a12.
-      try F (clientResume file i h) 12 (omega arith) (client-resume-sound file P i l) (client-resume-complete file P i l) a12 (λ a13.
-      try F (serverResume file i h) 13 (omega arith) (server-resume-sound file P i l) (server-resume-complete file P i l) a13 (λ a14.
-      try F (oops file i h) 14 (omega arith) (oops-sound file P i l U K R) (oops-complete file P i l U K R) a14 (λ a15.
+      try F (clientFinished file (past file i) h) 8 (omega arith) (client-finished-sound file P i l) (client-finished-complete file P i l) a8 (λ a9.
+      try F (serverFinished file (past file i) h) 9 (omega arith) (server-finished-sound file P i l) (server-finished-complete file P i l) a9 (λ a10.
+      try F (clientAccepts file (past file i) (bothFinished file i) h) 10 (omega arith) (client-accepts-sound file P i l) (client-accepts-complete file P i l) a10 (λ a11.
+      try F (serverAccepts file (past file i) (bothFinished file i) h) 11 (omega arith) (server-accepts-sound file P i l) (server-accepts-complete file P i l) a11 (λ a12.
+      try F (clientResume file (past file i) h) 12 (omega arith) (client-resume-sound file P i l) (client-resume-complete file P i l) a12 (λ a13.
+      try F (serverResume file (past file i) h) 13 (omega arith) (server-resume-sound file P i l) (server-resume-complete file P i l) a13 (λ a14.
+      try F (oops file (past file i) h) 14 (omega arith) (oops-sound file P i l U K R) (oops-complete file P i l U K R) a14 (λ a15.
       no-more a15)))))))))))))
     where
       no-more : ((j : ℕ) → F j → 15 ≤ j) → Least F 0
@@ -195,7 +197,7 @@ module _ (file : List ℕ) (r : reading file ≡ Readable) (i : ℕ) (l : i < ev
           record { fits = λ p. absurd (omega arith); least = λ j f. omega arith; none = λ _. none }
 
   pub rule-least : Least F (ruleOf file i)
-  rule-least = rw (rule-in-order file U K i h) in-order-least
+  rule-least = rw (rule-in-order file U K (past file i) (bothFinished file i) h) in-order-least
 
 -- rule 6 on an event and the next
 module _ (file : List ℕ) (r : reading file ≡ Readable) (i : ℕ) (l : suc i < eventsOf file) where

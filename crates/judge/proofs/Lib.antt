@@ -5,6 +5,6 @@ pub mod Right
 pub mod Least
 pub mod Judges
 pub mod Faults
-pub mod Paces
+pub mod Replies
 pub mod Cases
 pub mod Idle

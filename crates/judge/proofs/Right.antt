@@ -14,11 +14,11 @@ use Rattle.trace.specs.Refusal.{reading}
 use Rattle.trace.specs.Meaning.{beginning}
 use Rattle.trace.specs.declared.Reading.the-variants.{Readable}
 use Rattle.trace.proofs.Promised.{promises}
-use Rattle.spy.specs.Closure.{zeros, knownAfter}
+use Rattle.closure.specs.Closure.{zeros, knownAfter}
 use Rattle.spy.specs.Knowledge as question
 use Rattle.spy.specs.Knowledge.{Mark, analysed, neither, seenIn}
-use Rattle.spy.proofs.Exact.{marks-analysed}
-use Rattle.spy.proofs.Starting.{good-after}
+use Rattle.closure.proofs.Exact.{marks-analysed}
+use Rattle.closure.proofs.Starting.{good-after}
 use Rattle.spy.proofs.Makes.{marks-right}
 use Rattle.used.specs.Marking.{usedAfter}
 use Rattle.used.proofs.Exactly.{used-exactly}

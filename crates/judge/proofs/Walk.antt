@@ -18,8 +18,8 @@ use Rattle.paper.specs.Generated.{Nil, step, exchange}
 use Rattle.trace.specs.File.{eventsOf}
 use Rattle.trace.specs.Meaning.{beginning, bad}
 use Rattle.trace.proofs.First.{bool-cases, lt-suc}
+use Rattle.walk.specs.Walk.{Walked, walkedTo, walk}
 use Rattle.judge.specs.Judged.{AcceptedTo, Fits, Exchanged, RuleAt, lowest, note, message}
-use Rattle.judge.specs.Walk.{Walked, walkedTo, walk}
 use Rattle.judge.proofs.One.{not-both}
 
 -- a message of rule 6 is no note of it

@@ -3,7 +3,4 @@ pub mod Faulted
 pub mod Promises
 pub mod Cases
 pub mod Idle
-pub mod Lowest
-pub mod Walk
-pub mod Pace
 pub mod Reply

@@ -1,24 +1,15 @@
 -- What the code replies to a readable file: the walk over its events, in a buffer whose first bytes are cleared.
-use Prim.Native.Nat.{ℕ, zero, suc}
+use Prim.Native.Nat.{ℕ}
 use mathlib.Core.Bool.{true, false}
 use mathlib.Core.List.{List}
 use lib.Dec.{ltb}
-use lib.ListN.{length, set}
+use lib.ListN.{length}
 use Rattle.trace.specs.File.{eventsOf}
 use Rattle.trace.specs.Rows.{choose}
 use Rattle.trace.specs.declared.Cause.the-variants.{ShortBuffer}
+use Rattle.walk.specs.Walk.{cleared, walkFile}
 use Rattle.judge.specs.declared.reply.Verdict.{Verdict}
 use Rattle.judge.specs.declared.reply.Verdict.the-variants.{Refused, Illegal, Accepted}
-use Rattle.judge.specs.Walk.{Walked, walk}
-use Rattle.judge.specs.Lowest.{ruleOf, exchangeOf}
-
--- the first n bytes are 0
-unfoldable pub cleared : ℕ → List ℕ → List ℕ
-cleared zero bytes = bytes
-cleared (suc n) bytes = set (cleared n bytes) n 0
-
-abbrev pub walkFile : List ℕ → List ℕ → Walked
-walkFile file bytes = walk (ruleOf file) (exchangeOf file) (eventsOf file) (eventsOf file) 0 bytes
 
 -- by the length of the longest accepted beginning
 abbrev pub verdictAt : (events n : ℕ) → Verdict

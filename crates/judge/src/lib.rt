@@ -1,6 +1,4 @@
 // The judge: whether the fourteen rules generate a trace.
-mod fit;
-mod pace;
 pub mod reply;
 
 use reply::Verdict;
@@ -24,8 +22,8 @@ fn verdict_readable(file: &[u8], rules: &mut [u8]) -> Verdict
     if rules.len() < events as usize {
         return Verdict::Refused(Cause::ShortBuffer);
     }
-    pace::clear(rules, events);
-    let n = pace::walk_events(file, rules);
+    walk::clear(rules, events);
+    let n = walk::walk_events(file, rules);
     if n < events {
         Verdict::Illegal(n)
     } else {
@@ -37,7 +35,7 @@ fn verdict_readable(file: &[u8], rules: &mut [u8]) -> Verdict
 pub fn verdict(file: &[u8], rules: &mut [u8]) -> Verdict
     ensures { λ v. ⌜ Judged (now (file .entry)) (now (rules .entry)) v (now (rules .exit)) ⌝ }
 {
-    let reading = trace::read(file);
+    let reading = reading::read(file);
     match reading {
         Reading::Refused(cause) => Verdict::Refused(cause),
         Reading::Readable => verdict_readable(file, rules),
@@ -50,7 +48,7 @@ fn illegal_span(file: &[u8]) -> Span
     ensures { λ span. ⌜ Faulted (now (file .entry)) span ⌝ }
 {
     let mut rules = [0u8; 512];
-    let n = pace::walk_events(file, &mut rules);
+    let n = walk::walk_events(file, &mut rules);
     if n < trace::event_count(file) {
         return trace::event_span(file, EventNo(n));
     }
@@ -61,7 +59,7 @@ fn illegal_span(file: &[u8]) -> Span
 pub fn fault_span(file: &[u8]) -> Span
     ensures { λ span. ⌜ Faulted (now (file .entry)) span ⌝ }
 {
-    let reading = trace::read(file);
+    let reading = reading::read(file);
     match reading {
         Reading::Refused(cause) => trace::span_at_fault(file, cause),
         Reading::Readable => illegal_span(file),

@@ -20,26 +20,23 @@ use Rattle.forms.specs.Forms.{keptOf, verifiedOf}
 use Rattle.forms.proofs.Flags.{both5, both6}
 use Rattle.forms.proofs.Shaped.{shapes}
 use Rattle.earlier.specs.declared.Wanted.the-variants.{ReplyWith, Cert, Secret}
-use Rattle.earlier.specs.Earlier.{heardAt, saidBy, earlier}
+use Rattle.earlier.specs.Earlier.{heardAt, saidBy, earlier, past}
 use Rattle.rules.specs.Tests.{fresh, keyExchange, certVerify}
-use Rattle.earlier.proofs.Meant.{says-meant, notes-meant, says-told, notes-told, not-true}
-use Rattle.earlier.proofs.Premises.{nonce-one, one-row, note-same, reply-with-sound, reply-with-complete, cert-sound, cert-complete, secret-sound, secret-complete}
-use Rattle.rules.proofs.Steps.{Rights, event-same, says-same, notes-same, not-later, here-row, fresh-sound, fresh-complete}
+use Rattle.earlier.proofs.Meant.{says-meant, notes-meant, says-told, notes-told, not-later, here-row, not-true}
+use Rattle.earlier.proofs.Premises.{event-same, says-same, notes-same, crypt-same, nonce-one, one-row, note-same, reply-with-sound, reply-with-complete, cert-sound, cert-complete, secret-sound, secret-complete}
+use Rattle.rules.proofs.Steps.{Rights, fresh-sound, fresh-complete}
 
 verify-same : {A A′ B B′ : paper.agent} {N S : paper.nonce} → A ≡ A′ → B ≡ B′ →
     paper.Crypt (paper.priK A) (paper.Hash (paper.Pair (paper.Nonce N) (paper.Pair (paper.Agent B) (paper.Nonce S)))) ≡
     paper.Crypt (paper.priK A′) (paper.Hash (paper.Pair (paper.Nonce N) (paper.Pair (paper.Agent B′) (paper.Nonce S))))
 verify-same a b = rw (a, b) refl
 
-pub crypt-same : {K K′ : paper.key} {X X′ : paper.msg} → K ≡ K′ → X ≡ X′ → paper.Crypt K X ≡ paper.Crypt K′ X′
-crypt-same k x = rw (k, x) refl
-
 exchange-same : {b : paper.agent → Type 0} {evs : event.trace} {E E′ F F′ : event.event} → E ≡ E′ → F ≡ F′ → Exchange b evs E′ F′ → Exchange b evs E F
 exchange-same p q x = rw (p, q) x
 
 -- rule 6: this event and the next
 module _ (file : List ℕ) (P : Promised file) (e : ℕ) (le : e < eventsOf file) (next : suc e < eventsOf file) (used known : List ℕ) (R : Rights file used known e) where
-  pub key-exchange-sound : keyExchange file used e (heardAt file e) (heardAt file (suc e)) ≡ true →
+  pub key-exchange-sound : keyExchange file used (past file e) (heardAt file e) (heardAt file (suc e)) ≡ true →
       Exchange (bad file) (beginning file e) (eventMeant file (eventAt file e)) (eventMeant file (eventAt file (suc e)))
   unfolding keyExchange
   key-exchange-sound t =
@@ -70,12 +67,12 @@ module _ (file : List ℕ) (P : Promised file) (e : ℕ) (le : e < eventsOf file
       (ClientKeyExch (f .2) (i .1))
 
   pub key-exchange-complete : Exchange (bad file) (beginning file e) (eventMeant file (eventAt file e)) (eventMeant file (eventAt file (suc e))) →
-      keyExchange file used e (heardAt file e) (heardAt file (suc e)) ≡ true
+      keyExchange file used (past file e) (heardAt file e) (heardAt file (suc e)) ≡ true
   unfolding keyExchange
   key-exchange-complete x = go refl refl x
     where
       go : {E F : event.event} → eventMeant file (eventAt file e) ≡ E → eventMeant file (eventAt file (suc e)) ≡ F →
-          Exchange (bad file) (beginning file e) E F → keyExchange file used e (heardAt file e) (heardAt file (suc e)) ≡ true
+          Exchange (bad file) (beginning file e) E F → keyExchange file used (past file e) (heardAt file e) (heardAt file (suc e)) ≡ true
       go p q (ClientKeyExch {PMS = PMS} n i) =
           let h = heardAt file e in
           let s = heardAt file (suc e) in
@@ -100,7 +97,7 @@ module _ (file : List ℕ) (P : Promised file) (e : ℕ) (le : e < eventsOf file
           ) refl
 
 module _ (file : List ℕ) (P : Promised file) (e : ℕ) (le : e < eventsOf file) where
-  pub cert-verify-sound : certVerify file e (heardAt file e) ≡ true →
+  pub cert-verify-sound : certVerify file (past file e) (heardAt file e) ≡ true →
       Step (bad file) (beginning file e) (eventMeant file (eventAt file e)) 7
   unfolding certVerify
   cert-verify-sound t =
@@ -125,12 +122,12 @@ module _ (file : List ℕ) (P : Promised file) (e : ℕ) (le : e < eventsOf file
       (CertVerify (i .3) j)
 
   pub cert-verify-complete : Step (bad file) (beginning file e) (eventMeant file (eventAt file e)) 7 →
-      certVerify file e (heardAt file e) ≡ true
+      certVerify file (past file e) (heardAt file e) ≡ true
   unfolding certVerify
   cert-verify-complete s = go refl s
     where
       go : {E : event.event} → eventMeant file (eventAt file e) ≡ E → Step (bad file) (beginning file e) E 7 →
-          certVerify file e (heardAt file e) ≡ true
+          certVerify file (past file e) (heardAt file e) ≡ true
       go q (CertVerify i j) =
           let h = heardAt file e in
           let m = verifiedOf file (h .row) in

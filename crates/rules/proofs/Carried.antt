@@ -12,8 +12,8 @@ use lib.Seq.{getD-set-other}
 use borrow.Author.Tests.{ltb-true, leb-true, le-leb}
 use Rattle.trace.specs.Rows.{choose, rowAt}
 use Rattle.earlier.specs.declared.Heard.{Heard}
-use Rattle.spy.specs.Closure.{rowMarked, zeros}
-use Rattle.spy.proofs.Marks.{none-marked}
+use Rattle.closure.specs.Closure.{rowMarked, zeros}
+use Rattle.closure.proofs.Marks.{none-marked}
 use Rattle.rules.specs.declared.synth.Parts.{Parts}
 use Rattle.rules.specs.Tests.{canMake, fake}
 use Rattle.rules.specs.Making.{Made, told, partsOf, madeBelow, madeLast, makeBoth, makeWith, makeRow, tryFake, SoundMarks}

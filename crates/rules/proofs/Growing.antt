@@ -17,7 +17,7 @@ use Rattle.trace.specs.declared.Event.{Event}
 use Rattle.trace.specs.declared.Event.the-variants.{Says, Notes}
 use Rattle.trace.proofs.Both.{both}
 use Rattle.spy.specs.Made.{made, makes, writeMarks}
-use Rattle.spy.specs.Closure.{State, stateOf, rowMarked, sidesOf, below, bothSides, learnWith, learnRow, reopenRow, upRows, downRows, passRows, settle, seeRow, seeEvent}
+use Rattle.closure.specs.Closure.{State, stateOf, rowMarked, sidesOf, below, bothSides, learnWith, learnRow, reopenRow, upRows, downRows, passRows, settle, seeRow, seeEvent}
 use Rattle.rules.specs.Tests.{canMake}
 use Rattle.rules.specs.Making.{Kept}
 use Rattle.rules.proofs.Branches.{and}
@@ -95,9 +95,15 @@ module _ (file : List ℕ) where
 
   pass-kept : (n : ℕ) (rs ks : List ℕ) → Kept rs (passRows file n rs ks .rows)
   unfolding passRows
-  pass-kept n rs ks = λ x m.
-      let s = downRows file n rs ks in
-      up-kept n (s .rows) (s .keys) x (down-kept n rs ks x m)
+  pass-kept n rs ks = by-test (upRows file n rs ks .fresh)
+    where
+      by-test : (b : Bool) →
+          let s = upRows file n rs ks in
+          Kept rs ((elim b as (λ _. State) [ true ↦ downRows file n (s .rows) (s .keys) | false ↦ s ]) .rows)
+      by-test true = λ x m.
+          let s = upRows file n rs ks in
+          down-kept n (s .rows) (s .keys) x (up-kept n rs ks x m)
+      by-test false = up-kept n rs ks
 
   settle-kept : (d : ℕ) (s : State) → Kept (s .rows) (settle file d s .rows)
   unfolding settle

@@ -17,9 +17,9 @@ use Rattle.trace.specs.declared.Row.{Row}
 use Rattle.trace.specs.declared.Row.the-variants.{Agent, Number, Nonce, Prf, PublicKey, PrivateKey, SessionKey, Hash, Crypt, Pair}
 use Rattle.trace.proofs.Both.{both}
 use Rattle.trace.proofs.First.{lt-suc}
-use Rattle.spy.specs.Closure.{rowMarked, zeros}
+use Rattle.closure.specs.Closure.{rowMarked, zeros}
 use Rattle.spy.specs.Made.{made, makes, markOf, writeMarks}
-use Rattle.spy.proofs.Folds.{marks-length}
+use Rattle.spy.proofs.Sweep.{marks-length}
 use Rattle.rules.specs.declared.synth.Parts.{Parts}
 use Rattle.rules.specs.Tests.{canMake}
 use Rattle.rules.specs.Making.{leafOf, twoOf, partsOf}

@@ -18,17 +18,17 @@ use Rattle.trace.specs.Events.{eventAt}
 use Rattle.trace.specs.Meaning.{message, eventMeant, beginning, bad}
 use Rattle.trace.specs.Promises.{Promised}
 use Rattle.trace.proofs.Both.{both, both3, both4, refuted}
-use Rattle.spy.specs.Closure.{rowMarked}
-use Rattle.spy.proofs.Marks.{Marked}
+use Rattle.closure.specs.Closure.{rowMarked}
+use Rattle.closure.proofs.Marks.{Marked}
 use Rattle.forms.specs.Kinds.{publicOf, sessionOf, isPlain}
 use Rattle.forms.specs.Forms.{helloOf, replyOf, signedOf, derivedOf}
 use Rattle.forms.specs.Shapes.{Row-holds}
 use Rattle.forms.proofs.Shaped.{shapes}
 use Rattle.earlier.specs.declared.Wanted.the-variants.{HelloFor, Under}
-use Rattle.earlier.specs.Earlier.{heardAt, notedBy, earlier}
+use Rattle.earlier.specs.Earlier.{heardAt, notedBy, earlier, past}
 use Rattle.rules.specs.Tests.{fresh, canMake, fake, spyKeys, clientHello, serverHello, certificate, oops}
-use Rattle.earlier.proofs.Meant.{says-meant, notes-meant, says-told, notes-told, row-exists, not-true}
-use Rattle.earlier.proofs.Premises.{nonce-one, key-one, one-message, one-row, hello-same, cert-same, hello-for-sound, hello-for-complete, under-sound, under-complete}
+use Rattle.earlier.proofs.Meant.{says-meant, notes-meant, says-told, notes-told, not-later, here-row, not-true}
+use Rattle.earlier.proofs.Premises.{event-same, says-same, notes-same, nonce-one, key-one, one-message, one-row, hello-same, cert-same, hello-for-sound, hello-for-complete, under-sound, under-complete}
 
 -- the marks of the rows are those of the trace of the first e events
 pub record Rights (file used known : List ℕ) (e : ℕ) : Type 0 where
@@ -41,25 +41,10 @@ pub record Rights (file used known : List ℕ) (e : ℕ) : Type 0 where
       (canMake file known x ≡ true → Synth (Analz (Spies (bad file) (beginning file e))) (message file x)) ×
       (Synth (Analz (Spies (bad file) (beginning file e))) (message file x) → canMake file known x ≡ true)
 
-pub event-same : {b : paper.agent → Type 0} {evs : event.trace} {E E′ : event.event} {k : ℕ} → E ≡ E′ → Step b evs E′ k → Step b evs E k
-event-same q s = rw q s
-
-pub says-same : {A A′ B B′ : paper.agent} {X X′ : paper.msg} → A ≡ A′ → B ≡ B′ → X ≡ X′ → event.Says A B X ≡ event.Says A′ B′ X′
-says-same a b x = rw (a, b, x) refl
-
-pub notes-same : {A A′ : paper.agent} {X X′ : paper.msg} → A ≡ A′ → X ≡ X′ → event.Notes A X ≡ event.Notes A′ X′
-notes-same a x = rw (a, x) refl
-
 reply-same : {N N′ : paper.nonce} {S Q : ℕ} → N ≡ N′ → SH N S Q ≡ SH N′ S Q
 reply-same n = rw n refl
 
 module _ (file : List ℕ) (P : Promised file) (e : ℕ) (le : e < eventsOf file) where
-  pub not-later : e ≤ eventsOf file
-  not-later = omega (arith, le)
-
-  pub here-row : heardAt file e .row < rowsOf file
-  here-row = row-exists file (eventAt file e) (P .exists e le)
-
   pub not-flipped : (b : Bool) → b ≡ false → not b ≡ true
   not-flipped true h = absurd (true≢false h)
   not-flipped false h = refl
@@ -86,7 +71,7 @@ module _ (file : List ℕ) (P : Promised file) (e : ℕ) (le : e < eventsOf file
         let h = heardAt file e in
         let b = both3 (h .says) (eqb (h .from) 0) (canMake file known (h .row)) t in
         event-same (says-meant file (eventAt file e) (b .0) ∙ says-same (eqb-true (h .from) 0 (b .1)) refl refl)
-        (Fake (R .made-right (h .row) here-row .0 (b .2)))
+        (Fake (R .made-right (h .row) (here-row file P e le) .0 (b .2)))
 
     pub fake-complete : Step (bad file) (beginning file e) (eventMeant file (eventAt file e)) 1 → fake file known (heardAt file e) ≡ true
     unfolding fake
@@ -97,7 +82,7 @@ module _ (file : List ℕ) (P : Promised file) (e : ℕ) (le : e < eventsOf file
         go q (Fake s) =
             let h = heardAt file e in
             let t = says-told file (eventAt file e) q in
-            rw (t .0, eq-eqb (h .from) 0 (t .1), R .made-right (h .row) here-row .1 (rw (t .3) s)) refl
+            rw (t .0, eq-eqb (h .from) 0 (t .1), R .made-right (h .row) (here-row file P e le) .1 (rw (t .3) s)) refl
 
     pub certificate-sound : certificate file (heardAt file e) ≡ true →
         Step (bad file) (beginning file e) (eventMeant file (eventAt file e)) 5
@@ -108,7 +93,7 @@ module _ (file : List ℕ) (P : Promised file) (e : ℕ) (le : e < eventsOf file
         let k = publicOf file (m .key) in
         let b = both (h .says) (m .is && eqb (m .agent) (h .from) && k .is && eqb (k .first) (h .from)) t in
         let c = both4 (m .is) (eqb (m .agent) (h .from)) (k .is) (eqb (k .first) (h .from)) (b .1) in
-        let g = shapes file P .signed-sound (h .row) here-row (c .0) in
+        let g = shapes file P .signed-sound (h .row) (here-row file P e le) (c .0) in
         let p = shapes file P .public-sound (m .key) (g .1 .key .row) (c .2) in
         let o = key-one (sym (g .1 .key .meant) ∙ p .whole) ∙ ap paper.pubK (eqb-true (k .first) (h .from) (c .3)) in
         event-same
@@ -128,7 +113,7 @@ module _ (file : List ℕ) (P : Promised file) (e : ℕ) (le : e < eventsOf file
             let m = signedOf file (h .row) in
             let k = publicOf file (m .key) in
             let t = says-told file (eventAt file e) q in
-            let g = shapes file P .signed-complete (h .row) here-row (t .3) in
+            let g = shapes file P .signed-complete (h .row) (here-row file P e le) (t .3) in
             let p = shapes file P .public-complete (m .key) (g .key .row) (g .key .meant) in
             rw (t .0, g .flag, eq-eqb (m .agent) (h .from) (g .agent ∙ sym (t .1)), p .flag, eq-eqb (k .first) (h .from) (p .agent ∙ sym (t .1))) refl
 
@@ -140,7 +125,7 @@ module _ (file : List ℕ) (P : Promised file) (e : ℕ) (le : e < eventsOf file
         let m = helloOf file (h .row) in
         let b = both (h .says) (m .is && eqb (m .agent) (h .from) && fresh file used (m .na)) t in
         let c = both3 (m .is) (eqb (m .agent) (h .from)) (fresh file used (m .na)) (b .1) in
-        let g = shapes file P .hello-sound (h .row) here-row (c .0) in
+        let g = shapes file P .hello-sound (h .row) (here-row file P e le) (c .0) in
         let f = fresh-sound (m .na) (g .3 .na .row) (c .2) in
         event-same
         (says-meant file (eventAt file e) (b .0) ∙
@@ -159,7 +144,7 @@ module _ (file : List ℕ) (P : Promised file) (e : ℕ) (le : e < eventsOf file
             let h = heardAt file e in
             let m = helloOf file (h .row) in
             let t = says-told file (eventAt file e) q in
-            let g = shapes file P .hello-complete (h .row) here-row (t .3) in
+            let g = shapes file P .hello-complete (h .row) (here-row file P e le) (t .3) in
             rw (t .0, g .flag, eq-eqb (m .agent) (h .from) (g .agent ∙ sym (t .1)), fresh-complete (m .na) Na (g .na) u) refl
 
     pub spy-keys-sound : spyKeys file known (heardAt file e) ≡ true →
@@ -171,7 +156,7 @@ module _ (file : List ℕ) (P : Promised file) (e : ℕ) (le : e < eventsOf file
         let b = both (notedBy h 0) (d .is && rowMarked known (d .m) && rowMarked known (d .na) && rowMarked known (d .nb)) t in
         let n = both (not (h .says)) (eqb (h .from) 0) (b .0) in
         let c = both4 (d .is) (rowMarked known (d .m)) (rowMarked known (d .na)) (rowMarked known (d .nb)) (b .1) in
-        let g = shapes file P .derived-sound (h .row) here-row (c .0) in
+        let g = shapes file P .derived-sound (h .row) (here-row file P e le) (c .0) in
         event-same
         (notes-meant file (eventAt file e) (n .0) ∙ notes-same (eqb-true (h .from) 0 (n .1)) (g .4 .whole))
         (SpyKeys (rw (g .4 .m .meant) at (R .known-right (d .m) (g .4 .m .row) .0 (c .1)))
@@ -189,35 +174,35 @@ module _ (file : List ℕ) (P : Promised file) (e : ℕ) (le : e < eventsOf file
             let h = heardAt file e in
             let d = derivedOf file (h .row) in
             let t = notes-told file (eventAt file e) q in
-            let g = shapes file P .derived-complete (h .row) here-row (t .2) in
+            let g = shapes file P .derived-complete (h .row) (here-row file P e le) (t .2) in
             let i = R .known-right (d .m) (g .m .row) .1 (rw (g .m .meant) x) in
             let j = R .known-right (d .na) (g .na .row) .1 (rw (g .na .meant) y) in
             let k = R .known-right (d .nb) (g .nb .row) .1 (rw (g .nb .meant) z) in
             rw (t .0, eq-eqb (h .from) 0 (t .1), g .flag, i, j, k) refl
 
-    pub oops-sound : oops file e (heardAt file e) ≡ true → Step (bad file) (beginning file e) (eventMeant file (eventAt file e)) 14
+    pub oops-sound : oops file (past file e) (heardAt file e) ≡ true → Step (bad file) (beginning file e) (eventMeant file (eventAt file e)) 14
     unfolding oops
     oops-sound t =
         let h = heardAt file e in
         let b = both4 (h .says) (eqb (h .to) 0) (sessionOf file (h .row) .is) (earlier file (Under (h .from) (h .row)) e) t in
-        let g = shapes file P .session-sound (h .row) here-row (b .2) in
-        let u = under-sound file P e not-later (h .from) (h .row) (b .3) (record { row = here-row; meant = g .whole }) in
+        let g = shapes file P .session-sound (h .row) (here-row file P e le) (b .2) in
+        let u = under-sound file P e (not-later file P e le) (h .from) (h .row) (b .3) (record { row = here-row file P e le; meant = g .whole }) in
         event-same (says-meant file (eventAt file e) (b .0) ∙ says-same refl (eqb-true (h .to) 0 (b .1)) (g .whole)) (Oops (u .2))
 
-    pub oops-complete : Step (bad file) (beginning file e) (eventMeant file (eventAt file e)) 14 → oops file e (heardAt file e) ≡ true
+    pub oops-complete : Step (bad file) (beginning file e) (eventMeant file (eventAt file e)) 14 → oops file (past file e) (heardAt file e) ≡ true
     unfolding oops
     oops-complete s = go refl s
       where
         go : {E : event.event} → eventMeant file (eventAt file e) ≡ E → Step (bad file) (beginning file e) E 14 →
-            oops file e (heardAt file e) ≡ true
+            oops file (past file e) (heardAt file e) ≡ true
         go q (Oops i) =
             let h = heardAt file e in
             let t = says-told file (eventAt file e) q in
-            let g = shapes file P .session-complete (h .row) here-row (t .3) in
-            let u = under-complete file P e not-later (h .from) (h .row) (rw (← t .1) at i) (record { row = here-row; meant = t .3 }) in
+            let g = shapes file P .session-complete (h .row) (here-row file P e le) (t .3) in
+            let u = under-complete file P e (not-later file P e le) (h .from) (h .row) (rw (← t .1) at i) (record { row = here-row file P e le; meant = t .3 }) in
             rw (t .0, eq-eqb (h .to) 0 (t .2), g .flag, u) refl
 
-    pub server-hello-sound : serverHello file used e (heardAt file e) ≡ true →
+    pub server-hello-sound : serverHello file used (past file e) (heardAt file e) ≡ true →
         Step (bad file) (beginning file e) (eventMeant file (eventAt file e)) 4
     unfolding serverHello
     server-hello-sound t =
@@ -225,25 +210,25 @@ module _ (file : List ℕ) (P : Promised file) (e : ℕ) (le : e < eventsOf file
         let m = replyOf file (h .row) in
         let b = both (h .says) (m .is && fresh file used (m .nb) && earlier file (HelloFor (h .from) (h .to) (m .sid)) e) t in
         let c = both3 (m .is) (fresh file used (m .nb)) (earlier file (HelloFor (h .from) (h .to) (m .sid)) e) (b .1) in
-        let g = shapes file P .reply-sound (h .row) here-row (c .0) in
+        let g = shapes file P .reply-sound (h .row) (here-row file P e le) (c .0) in
         let f = fresh-sound (m .nb) (g .3 .nb .row) (c .1) in
-        let u = hello-for-sound file P e not-later (h .from) (h .to) (m .sid) (c .2) (g .3 .sid) in
+        let u = hello-for-sound file P e (not-later file P e le) (h .from) (h .to) (m .sid) (c .2) (g .3 .sid) in
         event-same
         (says-meant file (eventAt file e) (b .0) ∙
         says-same refl refl (g .3 .whole ∙ reply-same (nonce-one (sym (g .3 .nb .meant) ∙ f .1))))
         (ServerHello (f .2) (u .3))
 
     pub server-hello-complete : Step (bad file) (beginning file e) (eventMeant file (eventAt file e)) 4 →
-        serverHello file used e (heardAt file e) ≡ true
+        serverHello file used (past file e) (heardAt file e) ≡ true
     unfolding serverHello
     server-hello-complete s = go refl s
       where
         go : {E : event.event} → eventMeant file (eventAt file e) ≡ E → Step (bad file) (beginning file e) E 4 →
-            serverHello file used e (heardAt file e) ≡ true
+            serverHello file used (past file e) (heardAt file e) ≡ true
         go q (ServerHello {Nb = Nb} n i) =
             let h = heardAt file e in
             let m = replyOf file (h .row) in
             let t = says-told file (eventAt file e) q in
-            let g = shapes file P .reply-complete (h .row) here-row (t .3) in
-            let u = hello-for-complete file P e not-later (h .from) (h .to) (m .sid) (rw (← t .1, ← t .2) at i) (g .sid) in
+            let g = shapes file P .reply-complete (h .row) (here-row file P e le) (t .3) in
+            let u = hello-for-complete file P e (not-later file P e le) (h .from) (h .to) (m .sid) (rw (← t .1, ← t .2) at i) (g .sid) in
             rw (t .0, g .flag, fresh-complete (m .nb) Nb (g .nb) n, u) refl

@@ -9,7 +9,7 @@ use lib.ListN.{set}
 use Rattle.trace.specs.Rows.{choose, rowAt}
 use Rattle.trace.specs.declared.Row.{Row}
 use Rattle.trace.specs.declared.Row.the-variants.{Agent, Number, Nonce, Prf, PublicKey, PrivateKey, SessionKey, Hash, Crypt, Pair}
-use Rattle.spy.specs.Closure.{rowMarked}
+use Rattle.closure.specs.Closure.{rowMarked}
 use Rattle.earlier.specs.declared.Heard.{Heard}
 use Rattle.rules.specs.declared.synth.Parts.{Parts}
 use Rattle.rules.specs.Tests.{canMake}

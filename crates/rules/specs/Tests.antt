@@ -4,13 +4,14 @@ use Prim.Native.Nat.{ℕ, suc}
 use mathlib.Core.Bool.{Bool, _&&_, not}
 use mathlib.Core.List.{List}
 use lib.Dec.{eqb}
-use Rattle.spy.specs.Closure.{rowMarked, zeros}
+use Rattle.closure.specs.Closure.{rowMarked, zeros}
 use Rattle.spy.specs.Made.{made, writeMarks}
 use Rattle.forms.specs.Kinds.{cryptOf, publicOf, sessionOf, isPlain}
 use Rattle.forms.specs.Forms.{helloOf, replyOf, keptOf, signedOf, derivedOf, verifiedOf}
 use Rattle.earlier.specs.declared.Heard.{Heard}
+use Rattle.earlier.specs.declared.Wanted.{Wanted}
 use Rattle.earlier.specs.declared.Wanted.the-variants.{HelloFor, ReplyWith, Cert, Secret, Under}
-use Rattle.earlier.specs.Earlier.{saidBy, notedBy, earlier}
+use Rattle.earlier.specs.Earlier.{saidBy, notedBy}
 
 -- a plain nonce that is not used
 abbrev pub fresh : List ℕ → (used : List ℕ) → ℕ → Bool
@@ -33,10 +34,10 @@ clientHello file used h =
     let m = helloOf file (h .row) in
     h .says && (m .is && eqb (m .agent) (h .from) && fresh file used (m .na))
 
-unfoldable pub serverHello : List ℕ → (used : List ℕ) → ℕ → Heard → Bool
-serverHello file used e h =
+unfoldable pub serverHello : List ℕ → (used : List ℕ) → (Wanted → Bool) → Heard → Bool
+serverHello file used find h =
     let m = replyOf file (h .row) in
-    h .says && (m .is && fresh file used (m .nb) && earlier file (HelloFor (h .from) (h .to) (m .sid)) e)
+    h .says && (m .is && fresh file used (m .nb) && find (HelloFor (h .from) (h .to) (m .sid)))
 
 unfoldable pub certificate : List ℕ → Heard → Bool
 certificate file h =
@@ -45,18 +46,18 @@ certificate file h =
     h .says && (m .is && eqb (m .agent) (h .from) && k .is && eqb (k .first) (h .from))
 
 -- rule 6: this event and the next
-unfoldable pub keyExchange : List ℕ → (used : List ℕ) → ℕ → (note said : Heard) → Bool
-keyExchange file used e note said =
+unfoldable pub keyExchange : List ℕ → (used : List ℕ) → (Wanted → Bool) → (note said : Heard) → Bool
+keyExchange file used find note said =
     let k = keptOf file (note .row) in
     let c = cryptOf file (said .row) in
     not (note .says) && (k .is && fresh file used (k .secret) && saidBy said (note .from) (k .agent) && c .is && eqb (c .second) (k .secret) &&
-    earlier file (Cert (note .from) (k .agent) (c .first)) e)
+    find (Cert (note .from) (k .agent) (c .first)))
 
-unfoldable pub certVerify : List ℕ → ℕ → Heard → Bool
-certVerify file e h =
+unfoldable pub certVerify : List ℕ → (Wanted → Bool) → Heard → Bool
+certVerify file find h =
     let m = verifiedOf file (h .row) in
-    h .says && (m .is && eqb (m .signer) (h .from) && eqb (m .agent) (h .to) && earlier file (ReplyWith (h .from) (m .nb)) e &&
-    earlier file (Secret (h .from) (h .to) (m .secret)) e)
+    h .says && (m .is && eqb (m .signer) (h .from) && eqb (m .agent) (h .to) && find (ReplyWith (h .from) (m .nb)) &&
+    find (Secret (h .from) (h .to) (m .secret)))
 
-unfoldable pub oops : List ℕ → ℕ → Heard → Bool
-oops file e h = h .says && eqb (h .to) 0 && sessionOf file (h .row) .is && earlier file (Under (h .from) (h .row)) e
+unfoldable pub oops : List ℕ → (Wanted → Bool) → Heard → Bool
+oops file find h = h .says && eqb (h .to) 0 && sessionOf file (h .row) .is && find (Under (h .from) (h .row))

@@ -2,10 +2,11 @@
 // tested before a search is run.
 mod synth;
 
+use closure::row_marked;
 use earlier::Heard;
 use earlier::Wanted;
-use spy::closure::row_marked;
 ghost use mathlib.Core.Path.{_≡_};
+ghost use Rattle.earlier.specs.Boxes.{found};
 ghost use Rattle.rules.specs.Tests as tests;
 ghost use Rattle.rules.specs.Making.{told, tryFake};
 
@@ -62,14 +63,14 @@ pub fn client_hello(file: &[u8], used: &[u8; 1024], h: Heard) -> bool
 }
 
 // Rule 4: SH with a fresh nonce, to the agent of a CH.
-pub fn server_hello(file: &[u8], used: &[u8; 1024], e: u16, h: Heard) -> bool
-    ensures { λ b. ⌜ b ≡ tests.serverHello (now (file .entry)) (now (used .entry)) e h ⌝ }
+pub fn server_hello(file: &[u8], boxes: &[u16; 640], used: &[u8; 1024], e: u16, h: Heard) -> bool
+    ensures { λ b. ⌜ b ≡ tests.serverHello (now (file .entry)) (now (used .entry)) (found (now (file .entry)) (now (boxes .entry)) e) h ⌝ }
 {
     if h.says {
         let m = forms::server_hello(file, h.row);
         let fresh = is_fresh(file, used, m.nb);
         if (m.is) & fresh {
-            earlier::happened(file, Wanted::HelloFor(h.from, h.to, m.sid), e)
+            earlier::happened(file, boxes, Wanted::HelloFor(h.from, h.to, m.sid), e)
         } else {
             false
         }
@@ -92,8 +93,15 @@ pub fn certificate(file: &[u8], h: Heard) -> bool
 }
 
 // Rule 6: a fresh secret noted, and then sent under the key of a certificate.
-pub fn key_exchange(file: &[u8], used: &[u8; 1024], e: u16, note: Heard, said: Heard) -> bool
-    ensures { λ b. ⌜ b ≡ tests.keyExchange (now (file .entry)) (now (used .entry)) e note said ⌝ }
+pub fn key_exchange(
+    file: &[u8],
+    boxes: &[u16; 640],
+    used: &[u8; 1024],
+    e: u16,
+    note: Heard,
+    said: Heard,
+) -> bool
+    ensures { λ b. ⌜ b ≡ tests.keyExchange (now (file .entry)) (now (used .entry)) (found (now (file .entry)) (now (boxes .entry)) e) note said ⌝ }
 {
     if note.says {
         false
@@ -103,7 +111,7 @@ pub fn key_exchange(file: &[u8], used: &[u8; 1024], e: u16, note: Heard, said: H
         let sent = earlier::said_by(said, note.from, k.agent);
         let c = forms::leaves::crypt_of(file, said.row);
         if (k.is) & fresh & sent & (c.is) & (c.second == k.secret) {
-            earlier::happened(file, Wanted::Cert(note.from, k.agent, c.first), e)
+            earlier::happened(file, boxes, Wanted::Cert(note.from, k.agent, c.first), e)
         } else {
             false
         }
@@ -111,15 +119,15 @@ pub fn key_exchange(file: &[u8], used: &[u8; 1024], e: u16, note: Heard, said: H
 }
 
 // Rule 7: the nonce of an SH and a secret of one's own, signed.
-pub fn cert_verify(file: &[u8], e: u16, h: Heard) -> bool
-    ensures { λ b. ⌜ b ≡ tests.certVerify (now (file .entry)) e h ⌝ }
+pub fn cert_verify(file: &[u8], boxes: &[u16; 640], e: u16, h: Heard) -> bool
+    ensures { λ b. ⌜ b ≡ tests.certVerify (now (file .entry)) (found (now (file .entry)) (now (boxes .entry)) e) h ⌝ }
 {
     if h.says {
         let m = forms::cert_verify(file, h.row);
         if (m.is) & (m.signer == h.from) & (m.agent == h.to) {
-            let replied = earlier::happened(file, Wanted::ReplyWith(h.from, m.nb), e);
+            let replied = earlier::happened(file, boxes, Wanted::ReplyWith(h.from, m.nb), e);
             if replied {
-                earlier::happened(file, Wanted::Secret(h.from, h.to, m.secret), e)
+                earlier::happened(file, boxes, Wanted::Secret(h.from, h.to, m.secret), e)
             } else {
                 false
             }
@@ -132,13 +140,13 @@ pub fn cert_verify(file: &[u8], e: u16, h: Heard) -> bool
 }
 
 // Rule 14: a session key that one spoke under, lost to the spy.
-pub fn oops(file: &[u8], e: u16, h: Heard) -> bool
-    ensures { λ b. ⌜ b ≡ tests.oops (now (file .entry)) e h ⌝ }
+pub fn oops(file: &[u8], boxes: &[u16; 640], e: u16, h: Heard) -> bool
+    ensures { λ b. ⌜ b ≡ tests.oops (now (file .entry)) (found (now (file .entry)) (now (boxes .entry)) e) h ⌝ }
 {
     if (h.says) & (h.to == SPY) {
         let k = forms::leaves::session_of(file, h.row);
         if k.is {
-            earlier::happened(file, Wanted::Under(h.from, h.row), e)
+            earlier::happened(file, boxes, Wanted::Under(h.from, h.row), e)
         } else {
             false
         }

@@ -1,6 +1,6 @@
 // Whether the spy can make a row. A row that can be made is marked; what can be made only grows with the
 // events, so the marks are carried from event to event, and each such row is asked once.
-use spy::closure::row_marked;
+use closure::row_marked;
 use trace::Row;
 use trace::RowNo;
 ghost use mathlib.Core.Path.{_≡_};

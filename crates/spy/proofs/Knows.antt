@@ -20,13 +20,13 @@ use Rattle.trace.specs.declared.Cause.the-variants.{TooShort}
 use Rattle.trace.specs.declared.Reading as declared
 use Rattle.trace.proofs.Told.{refusals, number-below}
 use Rattle.trace.proofs.Promised.{promises}
-use Rattle.spy.specs.Closure.{knownAfter}
+use Rattle.closure.specs.Closure.{knownAfter}
 use Rattle.spy.specs.Knowledge.{Mark, analysed, made, neither, Marks, Knows, refused, short, many, written, seenIn, marksAfter, answerReadable, bytesReadable}
 use Rattle.spy.specs.Promises.{OneAnswer, Refuses}
 use Rattle.spy.specs.declared.Answer.the-variants.{Refused}
-use Rattle.spy.proofs.Folds.{marks-length}
-use Rattle.spy.proofs.Exact.{marks-analysed}
-use Rattle.spy.proofs.Starting.{good-after}
+use Rattle.spy.proofs.Sweep.{marks-length}
+use Rattle.closure.proofs.Exact.{marks-analysed}
+use Rattle.closure.proofs.Starting.{good-after}
 use Rattle.spy.proofs.Makes.{marks-right, marks-rest}
 
 -- the marks, for a file that is not refused

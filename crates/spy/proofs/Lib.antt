@@ -1,11 +1,4 @@
-pub mod Depth
-pub mod Folds
-pub mod Marks
-pub mod Grew
-pub mod Passes
-pub mod Sound
-pub mod Exact
-pub mod Starting
+pub mod Sweep
 pub mod Makes
 pub mod Knows
 pub mod Seen

@@ -19,12 +19,12 @@ use Rattle.trace.specs.Promises.{Promised, Keeps, hash, crypt, pair, Unfolds, a
 use Rattle.trace.specs.declared.Row.{Row}
 use Rattle.trace.proofs.First.{bool-cases, lt-suc}
 use Rattle.trace.proofs.Both.{both}
-use Rattle.spy.specs.Closure.{rowMarked}
+use Rattle.closure.specs.Closure.{rowMarked}
 use Rattle.spy.specs.Made.{made, makes, markOf, writeMarks}
 use Rattle.spy.specs.Knowledge as question
 use Rattle.spy.specs.Knowledge.{Mark, analysed, neither}
-use Rattle.spy.proofs.Marks.{Marked}
-use Rattle.spy.proofs.Folds.{marks-length}
+use Rattle.closure.proofs.Marks.{Marked}
+use Rattle.spy.proofs.Sweep.{marks-length}
 
 module _ (file : List ℕ) (P : Promised file) (H : paper.msg → Type 0) (rows : List ℕ)
     (sound : (x : ℕ) → x < rowsOf file → Marked rows x → Analz H (message file x))

@@ -32,7 +32,7 @@ use Rattle.trace.proofs.Promised.{promises}
 use Rattle.spy.specs.Knowledge.{Mark, analysed, made, neither, Marks, Knows, written, seenIn}
 use Rattle.spy.specs.Promises.{OnlyGrows, struckOut, eventsLeft, SameRows, SeenDecides}
 use Rattle.spy.specs.declared.Answer.the-variants.{Written}
-use Rattle.spy.proofs.Exact.{Newest, in-says, in-notes, newest, older}
+use Rattle.closure.proofs.Exact.{Newest, in-says, in-notes, newest, older}
 
 mark-grows : {G H : msg → Type 0} {X : msg} {m k : ℕ} → Within G H → Mark G X m → Mark H X k → m ≤ k
 mark-grows w (analysed a) (analysed b) = omega arith

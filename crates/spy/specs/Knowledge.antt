@@ -14,7 +14,7 @@ use Rattle.trace.specs.Meaning.{message, beginning, bad}
 use Rattle.trace.specs.declared.Cause.{Cause}
 use Rattle.trace.specs.declared.Cause.the-variants.{ShortBuffer, TooManyEvents}
 use Rattle.trace.specs.declared.Reading as reading
-use Rattle.spy.specs.Closure.{knownAfter}
+use Rattle.closure.specs.Closure.{knownAfter}
 use Rattle.spy.specs.Made.{writeMarks}
 use Rattle.spy.specs.declared.Answer.{Answer}
 use Rattle.spy.specs.declared.Answer.the-variants.{Refused, Written}

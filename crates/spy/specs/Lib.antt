@@ -1,4 +1,3 @@
-pub mod Closure
 pub mod Made
 pub mod Knowledge
 pub mod Promises

@@ -7,7 +7,7 @@ use lib.ListN.{getD, set}
 use Rattle.trace.specs.Rows.{choose, rowAt}
 use Rattle.trace.specs.declared.Row.{Row}
 use Rattle.trace.specs.declared.Row.the-variants.{Agent, Number, Nonce, Prf, PublicKey, PrivateKey, SessionKey, Hash, Crypt, Pair}
-use Rattle.spy.specs.Closure.{rowMarked}
+use Rattle.closure.specs.Closure.{rowMarked}
 
 abbrev pub made : List ℕ → ℕ → Bool
 made marks x = ltb 0 (getD marks x 0)

@@ -1,12 +1,11 @@
 // The spy: what it knows and can make, after any number of events.
-pub mod closure;
 pub mod made;
 
 use trace::Cause;
 use trace::EventNo;
 use trace::Reading;
 ghost use mathlib.Core.Path.{_≡_};
-ghost use Rattle.spy.specs.Closure.{knownAfter, zeros};
+ghost use Rattle.closure.specs.Closure.{knownAfter, zeros};
 ghost use Rattle.spy.specs.Knowledge.{Knows, marksAfter, answerReadable, bytesReadable};
 
 pub enum Answer {
@@ -60,7 +59,7 @@ fn answer_readable(file: &[u8], n: usize, buffer: &mut [u8]) -> Answer
 pub fn knowledge(file: &[u8], n: usize, buffer: &mut [u8]) -> Answer
     ensures { λ a. ⌜ Knows (now (file .entry)) n (now (buffer .entry)) a (now (buffer .exit)) ⌝ }
 {
-    let reading = trace::read(file);
+    let reading = reading::read(file);
     match reading {
         Reading::Refused(cause) => Answer::Refused(cause),
         Reading::Readable => answer_readable(file, n, buffer),

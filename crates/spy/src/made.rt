@@ -1,5 +1,5 @@
 // What the spy can make: one sweep from the lowest row up, over the rows that it knows.
-use super::closure::row_marked;
+use closure::row_marked;
 use trace::Row;
 use trace::RowNo;
 ghost use mathlib.Core.Path.{_≡_};

@@ -55,7 +55,7 @@ chained-none file =
 
 module _ (nexts : List ℕ) (r head : ℕ) where
   -- a link past row r is not changed
-  reach-set : (link s : ℕ) → Down nexts → link ≤ r → Reach nexts link s → Reach (set nexts r head) link s
+  pub reach-set : (link s : ℕ) → Down nexts → link ≤ r → Reach nexts link s → Reach (set nexts r head) link s
   reach-set link s down le (here e) = here e
   reach-set link s down le (further l p) =
       let kept : getD (set nexts r head) (link - 1) 0 ≡ getD nexts (link - 1) 0 = getD-set-other nexts r (link - 1) head 0 (omega arith) in

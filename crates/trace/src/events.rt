@@ -1,14 +1,13 @@
-// Events: the parts of each, what they have to hold, and what the event is.
+// Events: the parts of each, and what the event is.
 use super::AgentNo;
 use super::Event;
 use super::RowNo;
 use super::bytes;
-use super::header::AGENTS;
 use super::header::ITEM;
 use super::header::ROWS_AT;
 use super::header::header_of;
 ghost use mathlib.Core.Path.{_≡_};
-ghost use Rattle.trace.specs.Events.{partsAt, eventFits, eventOf};
+ghost use Rattle.trace.specs.Events.{partsAt, eventOf};
 
 pub struct Parts {
     pub kind: u16,
@@ -45,20 +44,7 @@ pub fn parts_at(file: &[u8], e: u16) -> Parts
     }
 }
 
-// Whether the event's parts are in range, its zeros are zero and its row exists.
-pub fn event_fits(p: Parts, rows: u16) -> bool
-    ensures { λ b. ⌜ b ≡ eventFits p rows ⌝ }
-{
-    (p.kind <= 1)
-        & (p.sender < AGENTS)
-        & (p.receiver < AGENTS)
-        & ((p.kind == 0) | (p.receiver == 0))
-        & (p.zero == 0)
-        & (p.row < rows)
-        & (p.rest == 0)
-}
-
-pub fn event_of(p: Parts) -> Event
+pub(crate) fn event_of(p: Parts) -> Event
     ensures { λ event. ⌜ event ≡ eventOf p ⌝ }
 {
     if p.kind == 0 {

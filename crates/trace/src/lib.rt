@@ -1,19 +1,17 @@
-// The trace file: every byte string is read or refused, and each row is one message.
-// This is the only crate that knows an offset.
+// The trace file: its contents part, rows and events, what each is, and where it lies.
+// This is the only crate that reads a byte of it.
 mod bytes;
-mod events;
-mod header;
+pub mod events;
+pub mod header;
 mod parts;
-mod rows;
-mod search;
+pub mod rows;
 
 ghost use mathlib.Core.Path.{_≡_};
-ghost use Prim.Native.Nat.{_≤_};
 ghost use Rattle.trace.specs.File.{rowsOf, eventsOf, compromisedIn};
 ghost use Rattle.trace.specs.Rows.{rowAt};
 ghost use Rattle.trace.specs.Events.{eventAt};
 ghost use Rattle.trace.specs.Fault.{Part, nothing, eventSpan, faultOf, within};
-ghost use Rattle.trace.specs.Refusal.{numberOf, placeOf, readItems, reading};
+ghost use Rattle.trace.specs.Refusal.{numberOf, placeOf};
 
 // Numbers of rows, events and agents are kept apart, and so are the values of Numbers and Nonces.
 pub struct RowNo(pub u16);
@@ -105,49 +103,6 @@ pub fn place(cause: Cause) -> u16
         Cause::ShortBuffer => 0,
         Cause::TooManyEvents => 0,
     }
-}
-
-// The rows and events of a file whose contents part is right.
-fn read_items(file: &[u8], rows: u16, events: u16) -> Reading
-    requires { ⌜ rows ≤ 1024 ⌝ }
-    ensures { λ r. ⌜ r ≡ readItems (now (file .entry)) rows events ⌝ }
-{
-    let bad = search::first_bad_row(file, rows);
-    if bad < rows {
-        return Reading::Refused(Cause::BadRow(RowNo(bad)));
-    }
-    let repeated = search::first_repeated_row(file, rows);
-    if repeated < rows {
-        return Reading::Refused(Cause::RepeatedRow(RowNo(repeated)));
-    }
-    let event = search::first_bad_event(file, rows, events);
-    if event < events {
-        return Reading::Refused(Cause::BadEvent(EventNo(event)));
-    }
-    Reading::Readable
-}
-
-// Refused with its cause and place, or readable.
-pub fn read(file: &[u8]) -> Reading
-    ensures { λ r. ⌜ r ≡ reading (now (file .entry)) ⌝ }
-{
-    if file.len() < header::ROWS_AT {
-        return Reading::Refused(Cause::TooShort);
-    }
-    let h = header::header_of(file);
-    let version = header::wrong_version(h);
-    if version {
-        return Reading::Refused(Cause::WrongVersion);
-    }
-    let set = header::wrong_set(file);
-    if set {
-        return Reading::Refused(Cause::WrongSet);
-    }
-    let contents = header::wrong_contents(h, file.len());
-    if contents {
-        return Reading::Refused(Cause::WrongContents);
-    }
-    read_items(file, h.rows, h.events)
 }
 
 pub fn row_count(file: &[u8]) -> u16

@@ -217,7 +217,7 @@ fn run(file: &[u8], size: u16) {
         return;
     }
     let file = &file[0..len];
-    match trace::read(file) {
+    match reading::read(file) {
         Reading::Refused(cause) => print_refusal(file, cause),
         Reading::Readable => {
             io::write_all(STDOUT_FILENO, b"readable\n");

@@ -11,7 +11,7 @@ use borrow.Author.Tests.{ltb-true, lt-ltb, le-ltb, le-leb, lt-leb}
 use lib.ListN.{set}
 use Rattle.trace.specs.Rows.{rowAt}
 use Rattle.trace.proofs.First.{lt-suc}
-use Rattle.spy.specs.Closure.{rowMarked}
+use Rattle.closure.specs.Closure.{rowMarked}
 use Rattle.used.specs.Marking.{partsOf, usedBelow, useWith, useRow}
 use Rattle.used.specs.declared.Halves.{Halves}
 

@@ -19,7 +19,7 @@ use Rattle.trace.specs.declared.Row.{Row}
 use Rattle.trace.specs.declared.Event.{Event}
 use Rattle.trace.specs.declared.Event.the-variants.{Says, Notes}
 use Rattle.trace.proofs.Promised.{promises}
-use Rattle.spy.proofs.Marks.{Marked, none-marked}
+use Rattle.closure.proofs.Marks.{Marked, none-marked}
 use Rattle.used.specs.Marking.{useRow, useEvent, usedAfter}
 use Rattle.used.specs.Promises.{UsedExactly}
 use Rattle.used.proofs.Grown.{Sides, Closed, Grew, uses}

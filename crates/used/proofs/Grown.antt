@@ -14,8 +14,8 @@ use borrow.Author.Tests.{ltb-true, lt-ltb, lt-leb}
 use Rattle.trace.specs.Rows.{rowAt}
 use Rattle.trace.specs.declared.Row.{Row}
 use Rattle.trace.proofs.First.{bool-cases}
-use Rattle.spy.specs.Closure.{rowMarked}
-use Rattle.spy.proofs.Marks.{Marked, row-same, row-other, row-keep}
+use Rattle.closure.specs.Closure.{rowMarked}
+use Rattle.closure.proofs.Marks.{Marked, row-same, row-other, row-keep}
 use Rattle.used.specs.Marking.{partsOf, usedBelow, useWith, useRow}
 
 -- both sides of row x, where they are below it, have H

@@ -10,7 +10,7 @@ use Rattle.trace.specs.declared.Event.{Event}
 use Rattle.trace.specs.declared.Event.the-variants.{Says, Notes}
 use Rattle.trace.specs.declared.Row.{Row}
 use Rattle.trace.specs.declared.Row.the-variants.{Agent, Number, Nonce, Prf, PublicKey, PrivateKey, SessionKey, Hash, Crypt, Pair}
-use Rattle.spy.specs.Closure.{rowMarked, zeros}
+use Rattle.closure.specs.Closure.{rowMarked, zeros}
 use Rattle.used.specs.declared.Halves.{Halves}
 
 -- what a row goes into, both sides of a pair and the body of a Crypt: a side that is not below the row is none

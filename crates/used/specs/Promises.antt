@@ -8,7 +8,7 @@ use Rattle.trace.specs.File.{rowsOf, eventsOf}
 use Rattle.trace.specs.Refusal.{reading}
 use Rattle.trace.specs.Meaning.{message, beginning}
 use Rattle.trace.specs.declared.Reading.the-variants.{Readable}
-use Rattle.spy.specs.Closure.{rowMarked}
+use Rattle.closure.specs.Closure.{rowMarked}
 use Rattle.used.specs.Marking.{usedAfter}
 
 abbrev pub UsedExactly : Type 0

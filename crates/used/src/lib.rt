@@ -57,7 +57,7 @@ fn halves_of(file: &[u8], row: u16) -> Halves
 fn mark_used(file: &[u8], rows: &mut [u8; 1024], row: u16)
     ensures { λ _. ⌜ now (rows .exit) ≡ useRow (now (file .entry)) (suc row) (now (rows .entry)) row ⌝ }
 {
-    let known = spy::closure::row_marked(rows, row);
+    let known = closure::row_marked(rows, row);
     if known {
         return;
     }

@@ -1,7 +1,7 @@
 -- `judge::verdict_readable` meets its contract: the tests that led to a return say which case holds.
 -- Assumes nothing.
 use borrow.Author.Needs.{needs}
-use Rattle.judge.proofs.Paces.{short-reply, illegal-reply, accepted-reply}
+use Rattle.judge.proofs.Replies.{short-reply, illegal-reply, accepted-reply}
 use Rattle.judge.proofs.verdict_readable.Statement.{statement}
 use Rattle.judge.proofs.verdict_readable.Tie as tie
 

@@ -4,8 +4,8 @@ use Prim.Native.Nat.{_≤_, _-_}
 use mathlib.Core.Path.{_≡_}
 use native.Mathlib.Omega.{arith}
 use denote.Ref.{now}
-use Rattle.spy.specs.Closure.{knownAfter}
-use Rattle.spy.proofs.Folds.{known-start, known-more}
+use Rattle.closure.specs.Closure.{knownAfter}
+use Rattle.closure.proofs.Folds.{known-start, known-more}
 use Rattle.spy.proofs.know.Statement.{statement}
 use Rattle.spy.proofs.know.Tie as tie
 

@@ -13,7 +13,7 @@ use Rattle.used.proofs.+mark_below+mark_used.Lts-mark_below as mark-bel
 use Rattle.used.proofs.mark_used.Reads as mark-used
 use Rattle.used.proofs.mark_used.Kinds as mark-used-kinds
 use Rattle.used.proofs.+mark_below+mark_used.Lts-mark_used as mark-used-lts
-use Rattle.spy.proofs.closure.row_marked.Reads as row-marked-reads
+use Rattle.closure.proofs.row_marked.Reads as row-marked-reads
 use Rattle.used.proofs.halves_of.Reads as halves-of-reads
 use Rattle.used.proofs.+mark_below+mark_used.{statement}
 use Rattle.used.proofs.+mark_below+mark_used.Tie.{close}

@@ -14,7 +14,7 @@ use Rattle.rules.proofs.synth.make_below.Reads as make-below′
 use Rattle.rules.proofs.synth.make_below.Kinds as make-below-kinds
 use Rattle.rules.proofs.synth.+make+make_below.Lts-make_below as make-below-lts
 use Rattle.rules.proofs.synth.parts_of.Reads as parts-of-reads
-use Rattle.spy.proofs.closure.row_marked.Reads as row-marked-reads
+use Rattle.closure.proofs.row_marked.Reads as row-marked-reads
 use Rattle.rules.proofs.synth.+make+make_below.{statement}
 use Rattle.rules.proofs.synth.+make+make_below.Tie.{close}
 

@@ -6,7 +6,7 @@ use native.Mathlib.Omega.{arith}
 use denote.Ref.{now}
 use lib.ListN.{length}
 use Rattle.spy.specs.Made.{writeMarks}
-use Rattle.spy.proofs.Folds.{marks-none, marks-more, marks-length}
+use Rattle.spy.proofs.Sweep.{marks-none, marks-more, marks-length}
 use Rattle.spy.proofs.made.write_marks.Statement.{statement}
 use Rattle.spy.proofs.made.write_marks.Tie as tie
 

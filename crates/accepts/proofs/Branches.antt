@@ -1,0 +1,45 @@
+-- What the branches of the tests need: a row that is no Crypt under a session key of its side is no Finished, and the order of tests does not matter.
+-- Assumes nothing.
+use Prim.Native.Nat.{ℕ}
+use mathlib.Core.Bool.{Bool, true, false, not, _&&_, _||_, true≢false}
+use mathlib.Core.List.{List}
+use mathlib.Core.Path.{_≡_, refl, sym, _∙_}
+use Rattle.trace.specs.Rows.{choose}
+use Rattle.forms.specs.Forms.{sealedOf, underKey}
+use Rattle.forms.proofs.Keyed.{gated, key-of}
+use Rattle.accepts.proofs.Accepts.{both8}
+
+pub unsealed-parts : (file : List ℕ) (r : ℕ) (server sid a b m na nb : Bool) → underKey file r server ≡ false →
+    (sealedOf file r .is && sid && a && b && m && na && nb && choose server (sealedOf file r .server) (not (sealedOf file r .server))) ≡ false
+unsealed-parts file r server sid a b m na nb =
+    gated _ (underKey file r server)
+    (λ t.
+    let x = both8 (sealedOf file r .is) sid a b m na nb (choose server (sealedOf file r .server) (not (sealedOf file r .server))) t in
+    key-of file r server (x .0) (x .7))
+
+and-false : (a : Bool) → (a && false) ≡ false
+and-false true = refl
+and-false false = refl
+
+and-true : (a : Bool) → (a && true) ≡ a
+and-true true = refl
+and-true false = refl
+
+pub or-true : (a : Bool) → (a || true) ≡ true
+or-true true = refl
+or-true false = refl
+
+pub or-false : (a : Bool) → (a || false) ≡ a
+or-false true = refl
+or-false false = refl
+
+pub or-assoc : (a b c : Bool) → ((a || b) || c) ≡ (a || (b || c))
+or-assoc true b c = refl
+or-assoc false b c = refl
+
+-- the hash is tested last
+pub hash-last : (a b q c : Bool) → (a && (b && q && c)) ≡ ((a && (b && c)) && q)
+hash-last false b q c = refl
+hash-last true false q c = refl
+hash-last true true true c = rw (and-true c) refl
+hash-last true true false c = rw (and-false c) refl

@@ -1,0 +1,128 @@
+-- Any depth above the row serves: what `learnRow` learns below a row lies below it.
+-- Assumes nothing.
+use Prim.Native.Nat.{ℕ, zero, suc, _<_, _≤_}
+use mathlib.Core.Bool.{Bool, true, false, _||_}
+use mathlib.Core.List.{List}
+use mathlib.Core.Logic.{⊎-elim}
+use mathlib.Core.Path.{_≡_, refl, sym, _∙_}
+use native.Mathlib.Omega.{arith}
+use native.Mathlib.Decide.{decLt}
+use lib.Dec.{ltb, leb}
+use borrow.Author.Tests.{ltb-true, lt-ltb, le-ltb, le-leb, lt-leb}
+use lib.ListN.{set}
+use Rattle.trace.specs.Rows.{choose, rowAt}
+use Rattle.trace.specs.declared.Row.{Row}
+use Rattle.trace.specs.declared.Row.the-variants.{Agent, Number, Nonce, Prf, PublicKey, PrivateKey, SessionKey, Hash, Crypt, Pair}
+use Rattle.trace.proofs.First.{lt-suc}
+use Rattle.trace.proofs.Both.{both}
+use Rattle.closure.specs.Closure.{State, stateOf, rowMarked, knowRow, opens, noSides, sidesOf, opened, below, bothSides, learnWith, learnRow, reopenRow}
+use Rattle.closure.specs.declared.Sides.{Sides}
+
+or-true : (a : Bool) → (a || true) ≡ true
+or-true true = refl
+or-true false = refl
+
+abbrev pub Go : Type 0
+Go = List ℕ → List ℕ → ℕ → State
+
+module _ (go go′ : Go) (row : ℕ) (same : (rs ks : List ℕ) (x : ℕ) → x < row → go rs ks x ≡ go′ rs ks x) where
+  below-same : (rs ks : List ℕ) (x : ℕ) → below go rs ks row x ≡ below go′ rs ks row x
+  below-same rs ks x = by-test (ltb x row) refl
+    where
+      by-test : (b : Bool) → ltb x row ≡ b →
+          _≡_ {A = State} (elim b [ true ↦ go rs ks x | false ↦ stateOf rs ks false ]) (elim b [ true ↦ go′ rs ks x | false ↦ stateOf rs ks false ])
+      by-test true e = same rs ks x (ltb-true x row e)
+      by-test false e = refl
+
+  with-same : (rs ks : List ℕ) (sides : Sides) (kind : Row) → learnWith go rs ks row sides kind ≡ learnWith go′ rs ks row sides kind
+  with-same rs ks sides kind = rw (below-same rs ks (sides .left), below-same _ _ (sides .right))
+
+module _ (file : List ℕ) where
+  deeper : (d : ℕ) (rs ks : List ℕ) (row : ℕ) → row < d → learnRow file (suc d) rs ks row ≡ learnRow file d rs ks row
+  unfolding learnRow
+  deeper zero rs ks row l = absurd (omega arith)
+  deeper (suc d) rs ks row l =
+      by-test (rowMarked rs row || leb 1024 row)
+      (with-same (learnRow file (suc d)) (learnRow file d) row (λ rs′ ks′ x h. deeper d rs′ ks′ x (omega arith)) rs ks (sidesOf file rs ks row (rowAt file row)) (rowAt file row))
+    where
+      by-test : (b : Bool) → {s t : State} → s ≡ t →
+          _≡_ {A = State} (elim b [ true ↦ stateOf rs ks false | false ↦ s ]) (elim b [ true ↦ stateOf rs ks false | false ↦ t ])
+      by-test true e = refl
+      by-test false e = e
+
+  pub any-depth : (d : ℕ) (rs ks : List ℕ) (row : ℕ) → row < d → learnRow file d rs ks row ≡ learnRow file (suc row) rs ks row
+  any-depth zero rs ks row l = absurd (omega arith)
+  any-depth (suc d) rs ks row l = ⊎-elim (λ h. deeper d rs ks row h ∙ any-depth d rs ks row h) (λ e. rw e) (lt-suc row d l)
+
+  -- `learnRow` and `below`, case by case
+  module _ (rs ks : List ℕ) (row : ℕ) where
+    pub learn-known : rowMarked rs row ≡ true → stateOf rs ks false ≡ learnRow file (suc row) rs ks row
+    unfolding learnRow
+    learn-known e = rw (e, learnRow)
+
+    pub learn-past : 1024 ≤ row → stateOf rs ks false ≡ learnRow file (suc row) rs ks row
+    unfolding learnRow
+    learn-past l = rw (le-leb 1024 row l, or-true (rowMarked rs row), learnRow)
+
+    pub learn-open : rowMarked rs row ≡ false → row < 1024 →
+        (sides : Sides) → sides ≡ sidesOf file rs ks row (rowAt file row) →
+        (lr lk : List ℕ) (lf : Bool) → stateOf lr lk lf ≡ below (learnRow file row) rs ks row (sides .left) →
+        (rr rk : List ℕ) (rf : Bool) → stateOf rr rk rf ≡ below (learnRow file row) lr lk row (sides .right) →
+        (kk : List ℕ) → kk ≡ knowRow rk (rowAt file row) →
+        stateOf (set rr row 1) kk (lf || rf || sides .key) ≡ learnRow file (suc row) rs ks row
+    unfolding learnRow
+    learn-open unmarked room sides se lr lk lf le rr rk rf re kk ke =
+        rw (unmarked, lt-leb 1024 row room, learnRow, ← se, ← le, ← re, ke)
+
+    pub below-taken : (x : ℕ) → x < row → learnRow file (suc x) rs ks x ≡ below (learnRow file row) rs ks row x
+    below-taken x l = rw (lt-ltb x row l, below) (sym (any-depth row rs ks x l))
+
+    pub below-left : (x : ℕ) → row ≤ x → stateOf rs ks false ≡ below (learnRow file row) rs ks row x
+    below-left x l = rw (le-ltb x row l, below)
+
+    pub reopen-open : rowMarked rs row ≡ true →
+        (sides : Sides) → sides ≡ sidesOf file rs ks row (rowAt file row) →
+        (lr lk : List ℕ) (lf : Bool) → stateOf lr lk lf ≡ below (learnRow file row) rs ks row (sides .left) →
+        (rr rk : List ℕ) (rf : Bool) → stateOf rr rk rf ≡ below (learnRow file row) lr lk row (sides .right) →
+        stateOf rr rk (lf || rf) ≡ reopenRow file rs ks row
+    reopen-open m sides se lr lk lf le rr rk rf re = rw (m, reopenRow, ← se, ← le, ← re)
+
+  module _ (rs ks : List ℕ) (row : ℕ) where
+    -- where all that a row can open into is marked, opening it changes nothing
+    below-marked : (x : ℕ) → rowMarked rs x ≡ true → stateOf rs ks false ≡ below (learnRow file row) rs ks row x
+    below-marked x m = go (decLt x row)
+      where
+        go : Dec (x < row) → stateOf rs ks false ≡ below (learnRow file row) rs ks row x
+        go (yes l) = learn-known rs ks x m ∙ below-taken rs ks row x l
+        go (no l) = below-left rs ks row x (omega arith)
+
+    no-side : stateOf rs ks false ≡ below (learnRow file row) rs ks row row
+    no-side = below-left rs ks row row (omega arith)
+
+    both-still : (sides : Sides) → stateOf rs ks false ≡ below (learnRow file row) rs ks row (sides .left) →
+        stateOf rs ks false ≡ below (learnRow file row) rs ks row (sides .right) →
+        stateOf rs ks false ≡ bothSides (learnRow file row) rs ks row sides
+    both-still sides l r = rw (← l, ← r) refl
+
+    opened-still : (R : Row) → opened rs R ≡ true → stateOf rs ks false ≡ bothSides (learnRow file row) rs ks row (sidesOf file rs ks row R)
+    opened-still (Agent a) o = both-still (noSides row false) no-side no-side
+    opened-still (Number n) o = both-still (noSides row false) no-side no-side
+    opened-still (Nonce n) o = both-still (noSides row false) no-side no-side
+    opened-still (Prf s x y) o = both-still (noSides row false) no-side no-side
+    opened-still (PublicKey a) o = both-still (noSides row true) no-side no-side
+    opened-still (PrivateKey a) o = both-still (noSides row true) no-side no-side
+    opened-still (SessionKey t x y z) o = both-still (noSides row true) no-side no-side
+    opened-still (Hash x) o = both-still (noSides row false) no-side no-side
+    opened-still (Crypt k x) o = go (opens file rs ks (k .0))
+      where
+        go : (b : Bool) →
+            stateOf rs ks false ≡
+            bothSides (learnRow file row) rs ks row (choose b (record { left = x .0; right = row; key = false }) (noSides row false))
+        go true = both-still (record { left = x .0; right = row; key = false }) (below-marked (x .0) o) no-side
+        go false = both-still (noSides row false) no-side no-side
+    opened-still (Pair x y) o =
+        let b = both (rowMarked rs (x .0)) (rowMarked rs (y .0)) o in
+        both-still (record { left = x .0; right = y .0; key = false }) (below-marked (x .0) (b .0)) (below-marked (y .0) (b .1))
+
+    pub reopen-opened : rowMarked rs row ≡ true → opened rs (rowAt file row) ≡ true → stateOf rs ks false ≡ reopenRow file rs ks row
+    reopen-opened m o = rw (m, reopenRow) (opened-still (rowAt file row) o)

@@ -1,0 +1,15 @@
+-- `closure::pass` meets its contract: it is the way up, and the way down after it if a key became known.
+-- Assumes nothing.
+use Rattle.closure.proofs.Folds.{pass-found, pass-ended}
+use borrow.Author.Needs.{needs}
+use Rattle.closure.proofs.pass.Statement.{statement}
+use Rattle.closure.proofs.pass.Tie as tie
+
+returns : tie.Need-returns
+returns c = pass-found _ _ _ _ _ _ _ _ (c .before .before .before .before .pass-up .ensures) (c .before .before .before .if1 .taken) (c .pass-down .ensures)
+
+returns-2 : tie.Need-returns-2
+returns-2 c = pass-ended _ _ _ _ _ _ (c .before .pass-up .ensures) (c .if1 .left)
+
+pub pass-spec : {M : Type 1} → statement M
+pass-spec = tie.close (tie.spec (λ c κs. search needs) (λ c κs. search needs) returns returns-2)

@@ -1,0 +1,360 @@
+// Closing: a row that is learnt is opened once, and a key that becomes known opens what waited for it.
+//
+// The state is two arrays: a mark for each analysed row, and one for each key that is known, public
+// keys at 0 to 63 and private ones at 64 to 127.
+use trace::AgentNo;
+use trace::Event;
+use trace::EventNo;
+use trace::Row;
+use trace::RowNo;
+ghost use mathlib.Core.Bool.{true};
+ghost use mathlib.Core.Path.{_≡_};
+ghost use Prim.Native.Nat.{suc, _+_};
+ghost use Rattle.trace.specs.File.{rowsOf, compromisedIn};
+ghost use Rattle.trace.specs.Rows.{choose, rowAt};
+ghost use Rattle.trace.specs.Events.{eventAt};
+ghost use Rattle.closure.specs.Closure.{stateOf, rowMarked, keyMarked, know, knowRow, opens, noSides, sidesOf, opened, below, learnRow, reopenRow, upRows, downRows, passRows, seeRow, seeEvent, startKeys, keyKnown, markRow, startRows};
+
+const ROWS: u16 = 1024;
+
+const KEYS: usize = 128;
+
+const PUBLIC: usize = 0;
+
+const PRIVATE: usize = 64;
+
+pub fn row_marked(rows: &[u8; 1024], r: u16) -> bool
+    ensures { λ b. ⌜ b ≡ rowMarked (now (rows .entry)) r ⌝ }
+{
+    if r < ROWS {
+        rows[r as usize] == 1
+    } else {
+        false
+    }
+}
+
+fn key_marked(keys: &[u8; 128], at: usize) -> bool
+    ensures { λ b. ⌜ b ≡ keyMarked (now (keys .entry)) at ⌝ }
+{
+    if at < KEYS { keys[at] == 1 } else { false }
+}
+
+// Whether the inverse of the key in row k is known.
+fn opens_with(file: &[u8], rows: &[u8; 1024], keys: &[u8; 128], k: RowNo) -> bool
+    ensures { λ b. ⌜ b ≡ opens (now (file .entry)) (now (rows .entry)) (now (keys .entry)) (k .0) ⌝ }
+{
+    let row = trace::row_at(file, k);
+    match row {
+        Row::PublicKey(a) => key_marked(keys, PRIVATE + (a.0 as usize)),
+        Row::PrivateKey(a) => key_marked(keys, PUBLIC + (a.0 as usize)),
+        Row::SessionKey(_, _, _, _) => row_marked(rows, k.0),
+        Row::Agent(_) => false,
+        Row::Number(_) => false,
+        Row::Nonce(_) => false,
+        Row::Prf(_, _, _) => false,
+        Row::Hash(_) => false,
+        Row::Crypt(_, _) => false,
+        Row::Pair(_, _) => false,
+    }
+}
+
+fn know_key(keys: &mut [u8; 128], at: usize)
+    ensures { λ _. ⌜ now (keys .exit) ≡ know (now (keys .entry)) at ⌝ }
+{
+    if at < KEYS {
+        keys[at] = 1;
+    }
+}
+
+// What a row opens into with the keys that are known: a side that is not below the row is none.
+struct Sides {
+    left: u16,
+    right: u16,
+    key: bool,
+}
+
+fn sides_of(file: &[u8], rows: &[u8; 1024], keys: &[u8; 128], row: u16) -> Sides
+    ensures { λ s. ⌜ s ≡ sidesOf (now (file .entry)) (now (rows .entry)) (now (keys .entry)) row (rowAt (now (file .entry)) row) ⌝ }
+{
+    let kind = trace::row_at(file, RowNo(row));
+    match kind {
+        Row::Pair(x, y) => Sides {
+            left: x.0,
+            right: y.0,
+            key: false,
+        },
+        Row::Crypt(k, x) => {
+            let opened = opens_with(file, rows, keys, k);
+            if opened {
+                Sides {
+                    left: x.0,
+                    right: row,
+                    key: false,
+                }
+            } else {
+                no_sides(row, false)
+            }
+        }
+        Row::PublicKey(_) => no_sides(row, true),
+        Row::PrivateKey(_) => no_sides(row, true),
+        Row::SessionKey(_, _, _, _) => no_sides(row, true),
+        Row::Agent(_) => no_sides(row, false),
+        Row::Number(_) => no_sides(row, false),
+        Row::Nonce(_) => no_sides(row, false),
+        Row::Prf(_, _, _) => no_sides(row, false),
+        Row::Hash(_) => no_sides(row, false),
+    }
+}
+
+fn no_sides(row: u16, key: bool) -> Sides
+    ensures { λ s. ⌜ s ≡ noSides row key ⌝ }
+{
+    Sides {
+        left: row,
+        right: row,
+        key,
+    }
+}
+
+// A public or a private key that is learnt becomes known.
+fn know_row(file: &[u8], keys: &mut [u8; 128], row: u16)
+    ensures { λ _. ⌜ now (keys .exit) ≡ knowRow (now (keys .entry)) (rowAt (now (file .entry)) row) ⌝ }
+{
+    let kind = trace::row_at(file, RowNo(row));
+    match kind {
+        Row::PublicKey(a) => know_key(keys, PUBLIC + (a.0 as usize)),
+        Row::PrivateKey(a) => know_key(keys, PRIVATE + (a.0 as usize)),
+        Row::SessionKey(_, _, _, _) => {}
+        Row::Agent(_) => {}
+        Row::Number(_) => {}
+        Row::Nonce(_) => {}
+        Row::Prf(_, _, _) => {}
+        Row::Hash(_) => {}
+        Row::Crypt(_, _) => {}
+        Row::Pair(_, _) => {}
+    }
+}
+
+// Learns a row, and all that opens below it with the keys that are known by then. Tells whether a
+// key became known. A row that is marked was opened before, so shared rows are walked once.
+fn learn(file: &[u8], rows: &mut [u8; 1024], keys: &mut [u8; 128], row: u16) -> bool
+    ensures { λ f. ⌜ stateOf (now (rows .exit)) (now (keys .exit)) f ≡
+        learnRow (now (file .entry)) (suc row) (now (rows .entry)) (now (keys .entry)) row ⌝ }
+{
+    let known = row_marked(rows, row);
+    if known {
+        return false;
+    }
+    if ROWS <= row {
+        return false;
+    }
+    let sides = sides_of(file, rows, keys, row);
+    let left = learn_below(file, rows, keys, row, sides.left);
+    let right = learn_below(file, rows, keys, row, sides.right);
+    know_row(file, keys, row);
+    rows[row as usize] = 1;
+    left | right | sides.key
+}
+
+fn learn_below(file: &[u8], rows: &mut [u8; 1024], keys: &mut [u8; 128], row: u16, x: u16) -> bool
+    ensures { λ f. ⌜ stateOf (now (rows .exit)) (now (keys .exit)) f ≡
+        below (learnRow (now (file .entry)) row) (now (rows .entry)) (now (keys .entry)) row x ⌝ }
+{
+    if x < row {
+        learn(file, rows, keys, x)
+    } else {
+        false
+    }
+}
+
+// Whether all that a row can open into is marked, so that opening it again changes nothing.
+fn is_open(file: &[u8], rows: &[u8; 1024], row: u16) -> bool
+    ensures { λ b. ⌜ b ≡ opened (now (rows .entry)) (rowAt (now (file .entry)) row) ⌝ }
+{
+    let kind = trace::row_at(file, RowNo(row));
+    match kind {
+        Row::Pair(x, y) => {
+            let left = row_marked(rows, x.0);
+            let right = row_marked(rows, y.0);
+            left & right
+        }
+        Row::Crypt(_, x) => row_marked(rows, x.0),
+        Row::PublicKey(_) => true,
+        Row::PrivateKey(_) => true,
+        Row::SessionKey(_, _, _, _) => true,
+        Row::Agent(_) => true,
+        Row::Number(_) => true,
+        Row::Nonce(_) => true,
+        Row::Prf(_, _, _) => true,
+        Row::Hash(_) => true,
+    }
+}
+
+// Opens a marked row again, with the keys that are known by now.
+fn reopen(file: &[u8], rows: &mut [u8; 1024], keys: &mut [u8; 128], r: u16) -> bool
+    ensures { λ f. ⌜ stateOf (now (rows .exit)) (now (keys .exit)) f ≡
+        reopenRow (now (file .entry)) (now (rows .entry)) (now (keys .entry)) r ⌝ }
+{
+    let known = row_marked(rows, r);
+    if known {
+        let open = is_open(file, rows, r);
+        if open {
+            return false;
+        }
+        let sides = sides_of(file, rows, keys, r);
+        let left = learn_below(file, rows, keys, r, sides.left);
+        let right = learn_below(file, rows, keys, r, sides.right);
+        left | right
+    } else {
+        false
+    }
+}
+
+// From the lowest row up; tells whether a key became known.
+fn pass_up(file: &[u8], rows: &mut [u8; 1024], keys: &mut [u8; 128], n: u16) -> bool
+    ensures { λ f. ⌜ stateOf (now (rows .exit)) (now (keys .exit)) f ≡
+        upRows (now (file .entry)) n (now (rows .entry)) (now (keys .entry)) ⌝ }
+{
+    let mut fresh = false;
+    let mut r: u16 = 0;
+    while r < n {
+        let opened = reopen(file, rows, keys, r);
+        fresh = fresh | opened;
+        r += 1;
+    }
+    fresh
+}
+
+// From the highest row down, where a key became known on the way up.
+fn pass_down(file: &[u8], rows: &mut [u8; 1024], keys: &mut [u8; 128], n: u16)
+    ensures { λ _. ⌜ stateOf (now (rows .exit)) (now (keys .exit)) true ≡
+        downRows (now (file .entry)) n (now (rows .entry)) (now (keys .entry)) ⌝ }
+{
+    let mut r: u16 = n;
+    while 0 < r {
+        r -= 1;
+        reopen(file, rows, keys, r);
+    }
+}
+
+// One pass over the rows, up, and down if that found a key: a chain of keys opens at once in either
+// order. Going up without a new key leaves nothing to open.
+fn pass(file: &[u8], rows: &mut [u8; 1024], keys: &mut [u8; 128], n: u16) -> bool
+    ensures { λ f. ⌜ stateOf (now (rows .exit)) (now (keys .exit)) f ≡
+        passRows (now (file .entry)) n (now (rows .entry)) (now (keys .entry)) ⌝ }
+{
+    let found = pass_up(file, rows, keys, n);
+    if found {
+        pass_down(file, rows, keys, n);
+        true
+    } else {
+        false
+    }
+}
+
+// A row is seen. A pass that finds a key marks its row, so there are at most as many passes as rows.
+fn see(file: &[u8], rows: &mut [u8; 1024], keys: &mut [u8; 128], row: u16)
+    ensures { λ _. ⌜ now (rows .exit) ≡ seeRow (now (file .entry)) (now (rows .entry)) (now (keys .entry)) row .rows ⌝ }
+    ensures { λ _. ⌜ now (keys .exit) ≡ seeRow (now (file .entry)) (now (rows .entry)) (now (keys .entry)) row .keys ⌝ }
+{
+    let n = trace::row_count(file);
+    let mut fresh = learn(file, rows, keys, row);
+    let mut passes: u16 = 0;
+    while passes < ROWS {
+        if !fresh {
+            return;
+        }
+        fresh = pass(file, rows, keys, n);
+        passes += 1;
+    }
+}
+
+// An event is seen if it is a Says, or a Notes of a compromised agent.
+pub fn see_event(file: &[u8], rows: &mut [u8; 1024], keys: &mut [u8; 128], e: EventNo)
+    ensures { λ _. ⌜ now (rows .exit) ≡
+        seeEvent (now (file .entry)) (now (rows .entry)) (now (keys .entry)) (eventAt (now (file .entry)) (e .0)) .rows ⌝ }
+    ensures { λ _. ⌜ now (keys .exit) ≡
+        seeEvent (now (file .entry)) (now (rows .entry)) (now (keys .entry)) (eventAt (now (file .entry)) (e .0)) .keys ⌝ }
+{
+    let event = trace::event_at(file, e);
+    match event {
+        Event::Says(_, _, r) => see(file, rows, keys, r.0),
+        Event::Notes(a, r) => {
+            let seen = trace::compromised(file, a);
+            if seen {
+                see(file, rows, keys, r.0)
+            }
+        }
+    }
+}
+
+fn start_key(file: &[u8], keys: &mut [u8; 128], agent: u16)
+    ensures { λ _. ⌜ now (keys .exit) ≡
+        choose (compromisedIn (now (file .entry)) agent) (know (now (keys .entry)) (64 + agent)) (now (keys .entry)) ⌝ }
+{
+    let bad = trace::compromised(file, AgentNo(agent));
+    if bad {
+        know_key(keys, PRIVATE + (agent as usize));
+    }
+}
+
+fn start_keys(file: &[u8], keys: &mut [u8; 128])
+    ensures { λ _. ⌜ now (keys .exit) ≡ startKeys (now (file .entry)) 64 (now (keys .entry)) ⌝ }
+{
+    let mut agent: u16 = 0;
+    while agent < 64 {
+        start_key(file, keys, agent);
+        agent += 1;
+    }
+}
+
+// Whether the row holds a key that is known.
+fn key_known(file: &[u8], keys: &[u8; 128], r: u16) -> bool
+    ensures { λ b. ⌜ b ≡ keyKnown (now (keys .entry)) (rowAt (now (file .entry)) r) ⌝ }
+{
+    let kind = trace::row_at(file, RowNo(r));
+    match kind {
+        Row::PublicKey(a) => key_marked(keys, PUBLIC + (a.0 as usize)),
+        Row::PrivateKey(a) => key_marked(keys, PRIVATE + (a.0 as usize)),
+        Row::SessionKey(_, _, _, _) => false,
+        Row::Agent(_) => false,
+        Row::Number(_) => false,
+        Row::Nonce(_) => false,
+        Row::Prf(_, _, _) => false,
+        Row::Hash(_) => false,
+        Row::Crypt(_, _) => false,
+        Row::Pair(_, _) => false,
+    }
+}
+
+fn start_row(file: &[u8], rows: &mut [u8; 1024], keys: &[u8; 128], r: u16)
+    ensures { λ _. ⌜ now (rows .exit) ≡
+        choose (keyKnown (now (keys .entry)) (rowAt (now (file .entry)) r)) (markRow (now (rows .entry)) r) (now (rows .entry)) ⌝ }
+{
+    let known = key_known(file, keys, r);
+    if known {
+        if r < ROWS {
+            rows[r as usize] = 1;
+        }
+    }
+}
+
+fn start_rows(file: &[u8], rows: &mut [u8; 1024], keys: &[u8; 128], n: u16)
+    ensures { λ _. ⌜ now (rows .exit) ≡ startRows (now (file .entry)) (now (keys .entry)) n (now (rows .entry)) ⌝ }
+{
+    let mut r: u16 = 0;
+    while r < n {
+        start_row(file, rows, keys, r);
+        r += 1;
+    }
+}
+
+// The starting knowledge, in arrays of zeros.
+pub fn start(file: &[u8], rows: &mut [u8; 1024], keys: &mut [u8; 128])
+    ensures { λ _. ⌜ now (keys .exit) ≡ startKeys (now (file .entry)) 64 (now (keys .entry)) ⌝ }
+    ensures { λ _. ⌜ now (rows .exit) ≡
+        startRows (now (file .entry)) (startKeys (now (file .entry)) 64 (now (keys .entry))) (rowsOf (now (file .entry))) (now (rows .entry)) ⌝ }
+{
+    start_keys(file, keys);
+    start_rows(file, rows, keys, trace::row_count(file));
+}

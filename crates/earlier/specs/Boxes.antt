@@ -1,0 +1,83 @@
+-- Where earlier events are looked for: each in the box of its receiver, or of the agent whose note it is, chained from the latest back.
+-- A link is one more than an event's number, or 0. No promise cites this file.
+use Prim.Native.Nat.{ℕ, zero, suc, _+_, _-_, _%_, _<_, _≤_}
+use mathlib.Core.Bool.{Bool, true, false, _&&_, _||_, not}
+use mathlib.Core.List.{List, [], _∷_}
+use mathlib.Core.Path.{_≡_}
+use lib.Dec.{ltb}
+use lib.ListN.{length, getD, set}
+use Rattle.trace.specs.Rows.{choose}
+use Rattle.earlier.specs.declared.Heard.{Heard}
+use Rattle.earlier.specs.declared.Wanted.{Wanted}
+use Rattle.earlier.specs.declared.Wanted.the-variants.{HelloFor, HelloBy, HelloTo, ReplyWith, ReplyTo, ReplyBy, Cert, Secret, Sent, Session, Under, Again}
+use Rattle.earlier.specs.Earlier.{heardAt, fitsIn, earlier}
+
+abbrev pub boxOf : Heard → ℕ
+boxOf h = choose (h .says) (h .to % 64) (64 + h .from % 64)
+
+abbrev pub boxFor : Wanted → ℕ
+boxFor (HelloFor to agent sid) = to % 64
+boxFor (HelloBy from to na sid pa) = to % 64
+boxFor (HelloTo to agent na sid pa) = to % 64
+boxFor (ReplyWith to nb) = to % 64
+boxFor (ReplyTo to nb sid pb) = to % 64
+boxFor (ReplyBy from to nb sid pb) = to % 64
+boxFor (Cert to agent key) = to % 64
+boxFor (Secret from agent secret) = 64 + from % 64
+boxFor (Sent to secret) = to % 64
+boxFor (Session from sid a b m) = 64 + from % 64
+boxFor (Under from key) = 128
+boxFor (Again h) = boxOf h
+
+-- the latest event in the box of what is said to an agent
+abbrev pub latestTo : List ℕ → ℕ → ℕ
+latestTo boxes to = getD boxes (to % 64) 0
+
+-- the event before this one in its box
+abbrev pub behind : List ℕ → ℕ → ℕ
+behind boxes e = getD boxes (128 + e) 0
+
+-- a link that does not fall, or comes from no event, leads nowhere
+abbrev pub next : List ℕ → ℕ → ℕ
+next boxes link = choose (ltb link 513 && ltb 0 link) (choose (ltb (behind boxes (link - 1)) link) (behind boxes (link - 1)) 0) 0
+
+-- the events of a chain from a link on, the latest first; the first number bounds them
+unfoldable pub chain : List ℕ → ℕ → ℕ → List ℕ
+chain boxes zero link = []
+chain boxes (suc d) link = elim (ltb 0 link) [ true ↦ (link - 1) ∷ chain boxes d (next boxes link) | false ↦ [] ]
+
+abbrev pub chainFrom : List ℕ → ℕ → List ℕ
+chainFrom boxes link = chain boxes link link
+
+unfoldable pub some : (ℕ → Bool) → List ℕ → Bool
+some p [] = false
+some p (j ∷ js) = p j || some p js
+
+-- what is wanted is in its box, or before e
+abbrev pub found : (file boxes : List ℕ) → ℕ → Wanted → Bool
+found file boxes e wanted =
+    choose (ltb (boxFor wanted) 128)
+    (some (λ j. fitsIn file wanted (heardAt file j)) (chainFrom boxes (getD boxes (boxFor wanted) 0)))
+    (earlier file wanted e)
+
+-- event e in front of its box, unless one that equals it is there
+abbrev pub keptIn : (file boxes : List ℕ) → ℕ → List ℕ
+keptIn file boxes e =
+    let at = boxOf (heardAt file e) in
+    let head = getD boxes at 0 in
+    choose (ltb e 512 && not (some (λ j. fitsIn file (Again (heardAt file e)) (heardAt file j)) (chainFrom boxes head)))
+    (set (set boxes (128 + e) head) at (e + 1))
+    boxes
+
+-- event s is on the chain that begins at the link
+pub data Reach (boxes : List ℕ) : ℕ → ℕ → Type 0 where
+  here : {link s : ℕ} → link ≡ suc s → Reach boxes link s
+  further : {link s : ℕ} → 0 < link → Reach boxes (behind boxes (link - 1)) s → Reach boxes link s
+
+-- the events before e are in their boxes, each or one that equals it
+pub record Boxed (file boxes : List ℕ) (e : ℕ) : Type 0 where
+  pub room : length boxes ≡ 640
+  pub few : e ≤ 512
+  pub falls : (j : ℕ) → behind boxes j ≤ j
+  pub low : (b : ℕ) → b < 128 → getD boxes b 0 ≤ e
+  pub kept : (j : ℕ) → j < e → (s : ℕ) × Reach boxes (getD boxes (boxOf (heardAt file j)) 0) s × (heardAt file s ≡ heardAt file j)

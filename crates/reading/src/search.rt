@@ -1,0 +1,106 @@
+// The lowest row or event that is to be refused.
+use lines::event_fits;
+use lines::row_fits;
+use trace::events::parts_at;
+use trace::rows::Fields;
+use trace::rows::fields_at;
+ghost use mathlib.Core.Path.{_≡_};
+ghost use Prim.Native.Nat.{_≤_, _<_};
+ghost use Rattle.trace.specs.First.{first};
+ghost use Rattle.trace.specs.Refusal.{badRow, repeatedRow, badEvent, sameFields};
+ghost use Rattle.trace.specs.Chain.{bucketOf, Down, Searched};
+
+const BUCKETS: usize = 1024;
+
+// The lowest row that breaks its kind's line, or `rows`.
+pub fn first_bad_row(file: &[u8], rows: u16) -> u16
+    ensures { λ r. ⌜ r ≡ first (badRow (now (file .entry))) rows ⌝ }
+{
+    let mut row: u16 = 0;
+    while row < rows {
+        let fits = row_fits(file, row);
+        if !fits {
+            return row;
+        }
+        row += 1;
+    }
+    row
+}
+
+// The lowest event that is not well formed, or `events`.
+pub fn first_bad_event(file: &[u8], rows: u16, events: u16) -> u16
+    ensures { λ r. ⌜ r ≡ first (badEvent (now (file .entry)) rows) events ⌝ }
+{
+    let mut e: u16 = 0;
+    while e < events {
+        let fits = event_fits(parts_at(file, e), rows);
+        if !fits {
+            return e;
+        }
+        e += 1;
+    }
+    e
+}
+
+fn same_fields(f: Fields, g: Fields) -> bool
+    ensures { λ b. ⌜ b ≡ sameFields f g ⌝ }
+{
+    (f.kind == g.kind)
+        & (f.role == g.role)
+        & (f.first == g.first)
+        & (f.second == g.second)
+        & (f.third == g.third)
+}
+
+// Odd factors spread the rows of a usual file over all buckets.
+fn bucket(f: Fields) -> usize
+    ensures { λ h. ⌜ (h ≡ bucketOf f) × (h < 1024) ⌝ }
+{
+    ((f.kind as usize) * 97
+        + (f.role as usize) * 31
+        + (f.first as usize) * 7
+        + (f.second as usize) * 61
+        + (f.third as usize) * 523)
+        % BUCKETS
+}
+
+// Whether a row of the chain has these fields. A chain's link is one more than a row's number, and 0 at the end.
+fn in_chain(file: &[u8], nexts: &[u16; 1024], head: u16, f: Fields) -> bool
+    requires { ⌜ Down (now nexts) ⌝ }
+    requires { ⌜ head ≤ 1024 ⌝ }
+    ensures { λ b. ⌜ Searched (now (file .entry)) (now (nexts .entry)) head f b ⌝ }
+{
+    let mut link = head;
+    while 0 < link {
+        let row = link - 1;
+        let same = same_fields(fields_at(file, row), f);
+        if same {
+            return true;
+        }
+        link = nexts[row as usize];
+    }
+    false
+}
+
+// The lowest row that equals an earlier one, or `rows`. Earlier rows are chained by bucket, so few are compared.
+pub fn first_repeated_row(file: &[u8], rows: u16) -> u16
+    requires { ⌜ rows ≤ 1024 ⌝ }
+    ensures { λ r. ⌜ r ≡ first (repeatedRow (now (file .entry))) rows ⌝ }
+{
+    let mut heads = [0u16; 1024];
+    let mut nexts = [0u16; 1024];
+    let mut r: u16 = 0;
+    while r < rows {
+        let f = fields_at(file, r);
+        let h = bucket(f);
+        let head = heads[h];
+        let repeated = in_chain(file, &nexts, head, f);
+        if repeated {
+            return r;
+        }
+        nexts[r as usize] = head;
+        r += 1;
+        heads[h] = r;
+    }
+    r
+}

@@ -1,4 +1,0 @@
-pub mod Finishes
-pub mod Accepts
-pub mod Branches
-pub mod Hashes
