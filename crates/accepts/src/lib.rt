@@ -51,7 +51,7 @@ fn mark_event(file: &[u8], marks: &mut [u8; 1024], j: u16, server: bool, to: u16
 }
 
 // The hashes of the Finished that an agent was told are marked.
-fn mark_told(file: &[u8], boxes: &[u16; 640], marks: &mut [u8; 1024], server: bool, to: u16)
+fn mark_told(file: &[u8], boxes: &[u16; 1664], marks: &mut [u8; 1024], server: bool, to: u16)
     ensures { λ _. ⌜ now (marks .exit) ≡
         markAll (now (file .entry)) server to (chainFrom (now (boxes .entry)) (latestTo (now (boxes .entry)) to)) (now (marks .entry)) ⌝ }
 {
@@ -160,7 +160,7 @@ fn agreed_at(
 
 fn agreed_any(
     file: &[u8],
-    boxes: &[u16; 640],
+    boxes: &[u16; 1664],
     marks: &[u8; 1024],
     e: u16,
     server: bool,
@@ -192,7 +192,7 @@ fn agreed_any(
 // the hashes that were told are marked first.
 fn both_finished(
     file: &[u8],
-    boxes: &[u16; 640],
+    boxes: &[u16; 1664],
     e: u16,
     server: bool,
     from: u16,
@@ -240,7 +240,7 @@ fn noted_by_server(h: Heard, n: Remembered, p: Three) -> bool
 }
 
 // Rule 10: ClientAccepts.
-pub fn client_accepts(file: &[u8], boxes: &[u16; 640], e: u16, h: Heard) -> bool
+pub fn client_accepts(file: &[u8], boxes: &[u16; 1664], e: u16, h: Heard) -> bool
     ensures { λ b. ⌜ b ≡ clientAccepts (now (file .entry)) (found (now (file .entry)) (now (boxes .entry)) e) (bothIn (now (file .entry)) (now (boxes .entry)) e) h ⌝ }
 {
     if !h.says {
@@ -271,7 +271,7 @@ pub fn client_accepts(file: &[u8], boxes: &[u16; 640], e: u16, h: Heard) -> bool
 }
 
 // Rule 11: ServerAccepts.
-pub fn server_accepts(file: &[u8], boxes: &[u16; 640], e: u16, h: Heard) -> bool
+pub fn server_accepts(file: &[u8], boxes: &[u16; 1664], e: u16, h: Heard) -> bool
     ensures { λ b. ⌜ b ≡ serverAccepts (now (file .entry)) (found (now (file .entry)) (now (boxes .entry)) e) (bothIn (now (file .entry)) (now (boxes .entry)) e) h ⌝ }
 {
     if !h.says {

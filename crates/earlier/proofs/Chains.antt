@@ -12,16 +12,16 @@ use native.Mathlib.Numerals.{add-one}
 use lib.Dec.{eqb, ltb}
 use lib.ListN.{getD, set, length, length-set, replicate, length-replicate}
 use lib.Seq.{getD-set-same, getD-set-other}
-use borrow.Author.Tests.{eqb-true, lt-ltb, le-ltb}
+use borrow.Author.Tests.{eqb-true, lt-ltb, le-ltb, ltb-true}
 use Rattle.trace.specs.First.{any}
 use Rattle.trace.specs.Rows.{choose}
 use Rattle.trace.proofs.First.{lt-suc, any-none, any-some, bool-cases}
 use Rattle.trace.proofs.Both.{both, both3, both4, refuted}
 use Rattle.earlier.specs.declared.Heard.{Heard}
 use Rattle.earlier.specs.declared.Wanted.{Wanted}
-use Rattle.earlier.specs.declared.Wanted.the-variants.{HelloFor, HelloBy, HelloTo, ReplyWith, ReplyTo, ReplyBy, Cert, Secret, Sent, Session, Under, Again}
+use Rattle.earlier.specs.declared.Wanted.the-variants.{HelloFor, HelloBy, HelloTo, ReplyWith, ReplyTo, ReplyBy, Cert, Secret, Sent, Session, Under}
 use Rattle.earlier.specs.Earlier.{heardAt, saidTo, saidBy, notedBy, sameHeard, fitsIn, earlier, past}
-use Rattle.earlier.specs.Boxes.{boxOf, boxFor, behind, next, chain, chainFrom, some, found, keptIn, Reach, here, further, Boxed}
+use Rattle.earlier.specs.Boxes.{boxOf, boxFor, behind, next, chain, chainFrom, some, found, slotOf, isAgain, keptIn, Reach, here, further, Boxed}
 
 or-true : (a : Bool) → (a || true) ≡ true
 or-true true = refl
@@ -100,10 +100,10 @@ module _ (boxes : List ℕ) where
     some-below link t = some-in link link t
 
     -- what can be reached is found
-    module _ (falls : (j : ℕ) → behind boxes j ≤ j) where
+    module _ (falls : (j : ℕ) → j < 512 → behind boxes j ≤ j) where
       next-behind : (link : ℕ) → 0 < link → link ≤ 512 → next boxes link ≡ behind boxes (link - 1)
       next-behind link l m =
-          rw (lt-ltb link 513 (omega arith), lt-ltb 0 link l, lt-ltb (behind boxes (link - 1)) link (omega (arith, falls (link - 1)))) refl
+          rw (lt-ltb link 513 (omega arith), lt-ltb 0 link l, lt-ltb (behind boxes (link - 1)) link (omega (arith, falls (link - 1) (omega arith)))) refl
 
       some-reach : (link s : ℕ) → link ≤ 512 → p s ≡ true → Reach boxes link s → some p (chainFrom boxes link) ≡ true
       some-reach link s m t (here q) =
@@ -111,7 +111,7 @@ module _ (boxes : List ℕ) where
           some-step link (omega arith) ∙ rw (q′, t) refl
       some-reach link s m t (further l r) =
           some-step link l ∙
-          rw (next-behind link l m, some-reach (behind boxes (link - 1)) s (omega (arith, falls (link - 1))) t r) (or-true (p (link - 1)))
+          rw (next-behind link l m, some-reach (behind boxes (link - 1)) s (omega (arith, falls (link - 1) (omega arith))) t r) (or-true (p (link - 1)))
 
 -- every box is one of the 128
 pub box-room : (h : Heard) → boxOf h < 128
@@ -142,13 +142,13 @@ zeros zero i = refl
 zeros (suc n) zero = refl
 zeros (suc n) (suc i) = zeros n i
 
-pub none-boxed : (file : List ℕ) → Boxed file (replicate 640 0) 0
+pub none-boxed : (file : List ℕ) → Boxed file (replicate 1664 0) 0
 none-boxed file =
     record {
-      room = length-replicate {A = ℕ} 640 0;
+      room = length-replicate {A = ℕ} 1664 0;
       few = omega arith;
-      falls = λ e. rw (zeros 640 (128 + e)) (omega arith);
-      low = λ b l. rw (zeros 640 b) (omega arith);
+      falls = λ e l. rw (zeros 1664 (128 + e)) (omega arith);
+      low = λ b l. rw (zeros 1664 b) (omega arith);
       kept = λ j l. absurd (omega arith);
     }
 
@@ -163,8 +163,21 @@ module _ (file boxes : List ℕ) (e : ℕ) (x : Boxed file boxes e) (few : e < 5
   head-low : head ≤ e
   head-low = x .low b (box-room (heardAt file e))
 
+  abbrev slot : ℕ
+  slot = 640 + slotOf (heardAt file e)
+
+  slot-room : slot < 1664
+  slot-room =
+      let m : slotOf (heardAt file e) < 1024 = mod-lt _ (omega arith) in
+      omega (arith, m)
+
+  kept-same : (s : ℕ) → s < e → heardAt file s ≡ heardAt file e → (t : ℕ) × Reach boxes head t × (heardAt file t ≡ heardAt file e)
+  kept-same s l q =
+      let k = x .kept s l in
+      (k .0, rw q at (k .1), k .2 ∙ q)
+
   -- one that equals it is there
-  again-boxed : some (λ j. fitsIn file (Again (heardAt file e)) (heardAt file j)) (chainFrom boxes head) ≡ true → Boxed file boxes (suc e)
+  again-boxed : isAgain file e (getD boxes slot 0) (heardAt file e) ≡ true → Boxed file boxes (suc e)
   again-boxed t =
       record {
         room = x .room;
@@ -174,43 +187,57 @@ module _ (file boxes : List ℕ) (e : ℕ) (x : Boxed file boxes e) (few : e < 5
         kept = λ j l. ⊎-elim (λ (l′ : j < e). x .kept j l′) (λ (q : j ≡ e). rw q equal) (lt-suc j e l);
       }
     where
-      hit : (s : ℕ) × (s < head) × (sameHeard (heardAt file s) (heardAt file e) ≡ true)
-      hit = some-below boxes (λ j. fitsIn file (Again (heardAt file e)) (heardAt file j)) head t
+      link : ℕ
+      link = getD boxes slot 0
 
-      same : heardAt file (hit .0) ≡ heardAt file e
-      same = same-heard _ _ (hit .2)
+      parts : (ltb 0 link ≡ true) × (ltb link (e + 1) ≡ true) × (sameHeard (heardAt file (link - 1)) (heardAt file e) ≡ true)
+      parts = both3 (ltb 0 link) (ltb link (e + 1)) (sameHeard (heardAt file (link - 1)) (heardAt file e)) t
+
+      same : heardAt file (link - 1) ≡ heardAt file e
+      same = same-heard _ _ (parts .2)
+
+      earlier-one : link - 1 < e
+      earlier-one = omega (arith, ltb-true 0 link (parts .0), ltb-true link (e + 1) (parts .1))
 
       equal : (s : ℕ) × Reach boxes head s × (heardAt file s ≡ heardAt file e)
-      equal =
-          let k = x .kept (hit .0) (omega (arith, hit .1, head-low)) in
-          (k .0, rw same at (k .1), k .2 ∙ same)
+      equal = kept-same (link - 1) earlier-one same
 
   -- it is put in front of its box
   abbrev longer : List ℕ
   longer = set boxes (128 + e) head
 
+  abbrev headed : List ℕ
+  headed = set longer b (e + 1)
+
   abbrev boxes′ : List ℕ
-  boxes′ = set longer b (e + 1)
+  boxes′ = set headed slot (e + 1)
+
+  -- the slots lie behind
+  unslotted : (k : ℕ) → k < 640 → getD boxes′ k 0 ≡ getD headed k 0
+  unslotted k l = getD-set-other headed slot k (e + 1) 0 (λ q. omega arith)
 
   new-head : getD boxes′ b 0 ≡ suc e
   new-head =
+      unslotted b (omega (arith, box-room (heardAt file e))) ∙
       getD-set-same longer b (e + 1) 0 (omega (arith, box-room (heardAt file e), length-set boxes (128 + e) head, x .room)) ∙ add-one e
 
   other-head : (k : ℕ) → k < 128 → ¬ (k ≡ b) → getD boxes′ k 0 ≡ getD boxes k 0
-  other-head k l n = getD-set-other longer b k (e + 1) 0 n ∙ getD-set-other boxes (128 + e) k head 0 (λ q. omega arith)
+  other-head k l n =
+      unslotted k (omega arith) ∙ getD-set-other longer b k (e + 1) 0 n ∙ getD-set-other boxes (128 + e) k head 0 (λ q. omega arith)
 
-  behind-kept : (j : ℕ) → behind boxes′ j ≡ behind longer j
-  behind-kept j = getD-set-other longer b (128 + j) (e + 1) 0 (λ q. omega (arith, box-room (heardAt file e)))
+  behind-kept : (j : ℕ) → j < 512 → behind boxes′ j ≡ behind longer j
+  behind-kept j l =
+      unslotted (128 + j) (omega arith) ∙ getD-set-other longer b (128 + j) (e + 1) 0 (λ q. omega (arith, box-room (heardAt file e)))
 
   behind-new : behind boxes′ e ≡ head
-  behind-new = behind-kept e ∙ getD-set-same boxes (128 + e) head 0 (omega (arith, x .room))
+  behind-new = behind-kept e few ∙ getD-set-same boxes (128 + e) head 0 (omega (arith, x .room))
 
-  behind-other : (j : ℕ) → ¬ (j ≡ e) → behind boxes′ j ≡ behind boxes j
-  behind-other j n = behind-kept j ∙ getD-set-other boxes (128 + e) (128 + j) head 0 (λ q. n (omega arith))
+  behind-other : (j : ℕ) → j < 512 → ¬ (j ≡ e) → behind boxes′ j ≡ behind boxes j
+  behind-other j l n = behind-kept j l ∙ getD-set-other boxes (128 + e) (128 + j) head 0 (λ q. n (omega arith))
 
-  falls′ : (j : ℕ) → Dec (j ≡ e) → behind boxes′ j ≤ j
-  falls′ j (yes q) = rw (q, behind-new) head-low
-  falls′ j (no n) = rw (behind-other j n) (x .falls j)
+  falls′ : (j : ℕ) → j < 512 → Dec (j ≡ e) → behind boxes′ j ≤ j
+  falls′ j l (yes q) = rw (q, behind-new) head-low
+  falls′ j l (no n) = rw (behind-other j l n) (x .falls j l)
 
   low′ : (k : ℕ) → k < 128 → Dec (k ≡ b) → getD boxes′ k 0 ≤ suc e
   low′ k l (yes q) = rw (q, new-head) (omega arith)
@@ -219,8 +246,8 @@ module _ (file boxes : List ℕ) (e : ℕ) (x : Boxed file boxes e) (few : e < 5
   reach-kept : (link s : ℕ) → link ≤ e → Reach boxes link s → Reach boxes′ link s
   reach-kept link s l (here q) = here q
   reach-kept link s l (further p r) =
-      let kept : behind boxes′ (link - 1) ≡ behind boxes (link - 1) = behind-other (link - 1) (λ q. omega arith) in
-      further {s = s} p (rw kept (reach-kept (behind boxes (link - 1)) s (omega (arith, x .falls (link - 1))) r))
+      let kept : behind boxes′ (link - 1) ≡ behind boxes (link - 1) = behind-other (link - 1) (omega arith) (λ q. omega arith) in
+      further {s = s} p (rw kept (reach-kept (behind boxes (link - 1)) s (omega (arith, x .falls (link - 1) (omega arith))) r))
 
   old-reach : (k s : ℕ) → k < 128 → Reach boxes (getD boxes k 0) s → Dec (k ≡ b) → Reach boxes′ (getD boxes′ k 0) s
   old-reach k s l r (yes q) =
@@ -242,18 +269,17 @@ module _ (file boxes : List ℕ) (e : ℕ) (x : Boxed file boxes e) (few : e < 5
   more-boxed : Boxed file boxes′ (suc e)
   more-boxed =
       record {
-        room = length-set longer b (e + 1) ∙ length-set boxes (128 + e) head ∙ x .room;
+        room = length-set headed slot (e + 1) ∙ length-set longer b (e + 1) ∙ length-set boxes (128 + e) head ∙ x .room;
         few = omega arith;
-        falls = λ j. falls′ j (ℕ-discrete j e);
+        falls = λ j l. falls′ j l (ℕ-discrete j e);
         low = λ k l. low′ k l (ℕ-discrete k b);
         kept = λ j l. ⊎-elim (λ (l′ : j < e). old-kept j l′) (λ (q : j ≡ e). rw q new-kept) (lt-suc j e l);
       }
 
   pub keep-boxed : Boxed file (keptIn file boxes e) (suc e)
-  keep-boxed = go (bool-cases (some (λ j. fitsIn file (Again (heardAt file e)) (heardAt file j)) (chainFrom boxes head)))
+  keep-boxed = go (bool-cases (isAgain file e (getD boxes slot 0) (heardAt file e)))
     where
-      go : (some (λ j. fitsIn file (Again (heardAt file e)) (heardAt file j)) (chainFrom boxes head) ≡ true) ⊎
-          (some (λ j. fitsIn file (Again (heardAt file e)) (heardAt file j)) (chainFrom boxes head) ≡ false) →
+      go : (isAgain file e (getD boxes slot 0) (heardAt file e) ≡ true) ⊎ (isAgain file e (getD boxes slot 0) (heardAt file e) ≡ false) →
           Boxed file (keptIn file boxes e) (suc e)
       go (inl t) = rw (lt-ltb e 512 few, t) (again-boxed t)
       go (inr f) = rw (lt-ltb e 512 few, f) more-boxed
@@ -310,7 +336,6 @@ fits-box file (Secret from agent secret) h l t = noted-box h from (both (notedBy
 fits-box file (Sent to secret) h l t = said-box h to (both (saidTo h to) _ t .0)
 fits-box file (Session from sid a b m) h l t = noted-box h from (both (notedBy h from) _ t .0)
 fits-box file (Under from key) h l t = absurd (omega arith)
-fits-box file (Again g) h l t = ap boxOf (same-heard h g t)
 
 found-earlier : (file boxes : List ℕ) (e : ℕ) → Boxed file boxes e → (wanted : Wanted) → found file boxes e wanted ≡ past file e wanted
 unfolding earlier
@@ -326,33 +351,34 @@ pub found-past : (file boxes : List ℕ) (e : ℕ) → Boxed file boxes e → fo
 found-past file boxes e x = λ i wanted. found-earlier file boxes e x wanted i
 
 -- what `keep` leaves, by what it found
-module _ (file boxes : List ℕ) (e : ℕ) {h : Heard} (heard : h ≡ heardAt file e) {at : ℕ} (box : at ≡ boxOf h) {again : Bool}
-    (search : again ≡ some (λ j. fitsIn file (Again h) (heardAt file j)) (chainFrom boxes (getD boxes at 0))) where
-  abbrev keptBy : ℕ → Bool → List ℕ
-  keptBy at again = choose (ltb e 512 && not again) (set (set boxes (128 + e) (getD boxes at 0)) at (e + 1)) boxes
+module _ (file boxes : List ℕ) (e : ℕ) {h : Heard} (heard : h ≡ heardAt file e) {at slot : ℕ} (box : at ≡ boxOf h) (place : slot ≡ slotOf h)
+    {again : Bool} (test : again ≡ isAgain file e (getD boxes (640 + slot) 0) h) where
+  abbrev writtenAt : ℕ → ℕ → List ℕ
+  writtenAt at slot = set (set (set boxes (128 + e) (getD boxes at 0)) at (e + 1)) (640 + slot) (e + 1)
 
-  keep-is : keptBy at again ≡ keptIn file boxes e
+  abbrev keptBy : ℕ → ℕ → Bool → List ℕ
+  keptBy at slot again = choose (ltb e 512 && not again) (writtenAt at slot) boxes
+
+  keep-is : keptBy at slot again ≡ keptIn file boxes e
   keep-is =
       let b : at ≡ boxOf (heardAt file e) = box ∙ ap boxOf heard in
-      let a : again ≡ some (λ j. fitsIn file (Again (heardAt file e)) (heardAt file j)) (chainFrom boxes (getD boxes (boxOf (heardAt file e)) 0)) =
-      search ∙ (λ i. some (λ j. fitsIn file (Again (heard i)) (heardAt file j)) (chainFrom boxes (getD boxes (b i) 0)))
+      let s : slot ≡ slotOf (heardAt file e) = place ∙ ap slotOf heard in
+      let a : again ≡ isAgain file e (getD boxes (640 + slotOf (heardAt file e)) 0) (heardAt file e) =
+      test ∙ (λ i. isAgain file e (getD boxes (640 + s i) 0) (heard i))
       in
-      λ i. keptBy (b i) (a i)
+      λ i. keptBy (b i) (s i) (a i)
 
-  abbrev written : List ℕ
-  written = set (set boxes (128 + e) (getD boxes at 0)) at (e + 1)
-
-  pub keep-new : e < 512 → not again ≡ true → written ≡ keptIn file boxes e
+  pub keep-new : e < 512 → not again ≡ true → writtenAt at slot ≡ keptIn file boxes e
   keep-new l t =
-      let w : keptBy at again ≡ written = rw (lt-ltb e 512 l, t) refl in
+      let w : keptBy at slot again ≡ writtenAt at slot = rw (lt-ltb e 512 l, t) refl in
       sym w ∙ keep-is
 
   pub keep-old : e < 512 → not again ≡ false → boxes ≡ keptIn file boxes e
   keep-old l t =
-      let w : keptBy at again ≡ boxes = rw (lt-ltb e 512 l, t) refl in
+      let w : keptBy at slot again ≡ boxes = rw (lt-ltb e 512 l, t) refl in
       sym w ∙ keep-is
 
   pub keep-past : 512 ≤ e → boxes ≡ keptIn file boxes e
   keep-past l =
-      let w : keptBy at again ≡ boxes = rw (le-ltb e 512 l) refl in
+      let w : keptBy at slot again ≡ boxes = rw (le-ltb e 512 l) refl in
       sym w ∙ keep-is

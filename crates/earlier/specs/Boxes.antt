@@ -1,6 +1,6 @@
 -- Where earlier events are looked for: each in the box of its receiver, or of the agent whose note it is, chained from the latest back.
 -- A link is one more than an event's number, or 0. No promise cites this file.
-use Prim.Native.Nat.{ℕ, zero, suc, _+_, _-_, _%_, _<_, _≤_}
+use Prim.Native.Nat.{ℕ, zero, suc, _+_, _-_, _*_, _%_, _<_, _≤_}
 use mathlib.Core.Bool.{Bool, true, false, _&&_, _||_, not}
 use mathlib.Core.List.{List, [], _∷_}
 use mathlib.Core.Path.{_≡_}
@@ -9,8 +9,8 @@ use lib.ListN.{length, getD, set}
 use Rattle.trace.specs.Rows.{choose}
 use Rattle.earlier.specs.declared.Heard.{Heard}
 use Rattle.earlier.specs.declared.Wanted.{Wanted}
-use Rattle.earlier.specs.declared.Wanted.the-variants.{HelloFor, HelloBy, HelloTo, ReplyWith, ReplyTo, ReplyBy, Cert, Secret, Sent, Session, Under, Again}
-use Rattle.earlier.specs.Earlier.{heardAt, fitsIn, earlier}
+use Rattle.earlier.specs.declared.Wanted.the-variants.{HelloFor, HelloBy, HelloTo, ReplyWith, ReplyTo, ReplyBy, Cert, Secret, Sent, Session, Under}
+use Rattle.earlier.specs.Earlier.{heardAt, sameHeard, fitsIn, earlier}
 
 abbrev pub boxOf : Heard → ℕ
 boxOf h = choose (h .says) (h .to % 64) (64 + h .from % 64)
@@ -27,7 +27,6 @@ boxFor (Secret from agent secret) = 64 + from % 64
 boxFor (Sent to secret) = to % 64
 boxFor (Session from sid a b m) = 64 + from % 64
 boxFor (Under from key) = 128
-boxFor (Again h) = boxOf h
 
 -- the latest event in the box of what is said to an agent
 abbrev pub latestTo : List ℕ → ℕ → ℕ
@@ -60,13 +59,20 @@ found file boxes e wanted =
     (some (λ j. fitsIn file wanted (heardAt file j)) (chainFrom boxes (getD boxes (boxFor wanted) 0)))
     (earlier file wanted e)
 
--- event e in front of its box, unless one that equals it is there
+-- equal events have one slot, which leads to the last of them that was kept; others may share it
+abbrev pub slotOf : Heard → ℕ
+slotOf h = (h .row * 5 + h .from * 97 + h .to * 31) % 1024
+
+abbrev pub isAgain : List ℕ → (e link : ℕ) → Heard → Bool
+isAgain file e link h = ltb 0 link && ltb link (e + 1) && sameHeard (heardAt file (link - 1)) h
+
+-- event e in front of its box, unless it is known that one that equals it is kept
 abbrev pub keptIn : (file boxes : List ℕ) → ℕ → List ℕ
 keptIn file boxes e =
     let at = boxOf (heardAt file e) in
-    let head = getD boxes at 0 in
-    choose (ltb e 512 && not (some (λ j. fitsIn file (Again (heardAt file e)) (heardAt file j)) (chainFrom boxes head)))
-    (set (set boxes (128 + e) head) at (e + 1))
+    let slot = 640 + slotOf (heardAt file e) in
+    choose (ltb e 512 && not (isAgain file e (getD boxes slot 0) (heardAt file e)))
+    (set (set (set boxes (128 + e) (getD boxes at 0)) at (e + 1)) slot (e + 1))
     boxes
 
 -- event s is on the chain that begins at the link
@@ -76,8 +82,8 @@ pub data Reach (boxes : List ℕ) : ℕ → ℕ → Type 0 where
 
 -- the events before e are in their boxes, each or one that equals it
 pub record Boxed (file boxes : List ℕ) (e : ℕ) : Type 0 where
-  pub room : length boxes ≡ 640
+  pub room : length boxes ≡ 1664
   pub few : e ≤ 512
-  pub falls : (j : ℕ) → behind boxes j ≤ j
+  pub falls : (j : ℕ) → j < 512 → behind boxes j ≤ j
   pub low : (b : ℕ) → b < 128 → getD boxes b 0 ≤ e
   pub kept : (j : ℕ) → j < e → (s : ℕ) × Reach boxes (getD boxes (boxOf (heardAt file j)) 0) s × (heardAt file s ≡ heardAt file j)

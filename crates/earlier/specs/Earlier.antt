@@ -11,7 +11,7 @@ use Rattle.forms.specs.Kinds.{cryptOf, publicOf}
 use Rattle.forms.specs.Forms.{helloOf, replyOf, keptOf, signedOf, rememberedOf}
 use Rattle.earlier.specs.declared.Heard.{Heard}
 use Rattle.earlier.specs.declared.Wanted.{Wanted}
-use Rattle.earlier.specs.declared.Wanted.the-variants.{HelloFor, HelloBy, HelloTo, ReplyWith, ReplyTo, ReplyBy, Cert, Secret, Sent, Session, Under, Again}
+use Rattle.earlier.specs.declared.Wanted.the-variants.{HelloFor, HelloBy, HelloTo, ReplyWith, ReplyTo, ReplyBy, Cert, Secret, Sent, Session, Under}
 
 -- an event, flat
 abbrev pub heardIn : Event → Heard
@@ -36,24 +36,30 @@ isHello file r agent na sid pa =
     let m = helloOf file r in
     m .is && eqb (m .agent) agent && eqb (m .na) na && eqb (m .sid) sid && eqb (m .pa) pa
 
+abbrev pub isHelloFor : List ℕ → ℕ → (agent sid : ℕ) → Bool
+isHelloFor file r agent sid =
+    let m = helloOf file r in
+    m .is && eqb (m .agent) agent && eqb (m .sid) sid
+
 abbrev pub isReply : List ℕ → ℕ → (nb sid pb : ℕ) → Bool
 isReply file r nb sid pb =
     let m = replyOf file r in
     m .is && eqb (m .nb) nb && eqb (m .sid) sid && eqb (m .pb) pb
+
+abbrev pub isReplyWith : List ℕ → ℕ → ℕ → Bool
+isReplyWith file r nb =
+    let m = replyOf file r in
+    m .is && eqb (m .nb) nb
 
 abbrev pub sameHeard : Heard → Heard → Bool
 sameHeard h g =
     ((h .says && g .says) || (not (h .says) && not (g .says))) && eqb (h .from) (g .from) && eqb (h .to) (g .to) && eqb (h .row) (g .row)
 
 abbrev pub fitsIn : List ℕ → Wanted → Heard → Bool
-fitsIn file (HelloFor to agent sid) h =
-    let m = helloOf file (h .row) in
-    saidTo h to && (m .is && eqb (m .agent) agent && eqb (m .sid) sid)
+fitsIn file (HelloFor to agent sid) h = saidTo h to && isHelloFor file (h .row) agent sid
 fitsIn file (HelloBy from to na sid pa) h = saidBy h from to && isHello file (h .row) from na sid pa
 fitsIn file (HelloTo to agent na sid pa) h = saidTo h to && isHello file (h .row) agent na sid pa
-fitsIn file (ReplyWith to nb) h =
-    let m = replyOf file (h .row) in
-    saidTo h to && (m .is && eqb (m .nb) nb)
+fitsIn file (ReplyWith to nb) h = saidTo h to && isReplyWith file (h .row) nb
 fitsIn file (ReplyTo to nb sid pb) h = saidTo h to && isReply file (h .row) nb sid pb
 fitsIn file (ReplyBy from to nb sid pb) h = saidBy h from to && isReply file (h .row) nb sid pb
 fitsIn file (Cert to agent key) h =
@@ -72,7 +78,6 @@ fitsIn file (Session from sid a b m) h =
 fitsIn file (Under from key) h =
     let c = cryptOf file (h .row) in
     (h .says && eqb (h .from) from) && (c .is && eqb (c .first) key)
-fitsIn file (Again g) h = sameHeard h g
 
 -- some event before e fits
 unfoldable pub earlier : List ℕ → Wanted → ℕ → Bool

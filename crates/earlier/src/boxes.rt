@@ -1,16 +1,18 @@
 // Earlier events by their boxes, so that a search looks only where its event can lie.
 //
-// An event lies in the box of its receiver, and a note in one of its agent's own. The first 128 entries
-// of the array are the boxes and the others the events: each leads to the event before it in its box, by one more
-// than that event's number, or is 0. An event that equals an earlier one is not kept again.
+// An event lies in the box of its receiver, and a note in one of its agent's own. The array has 128 boxes, 512
+// events and 1,024 slots. A box leads to its latest event, an event to the one before it in its box, and a slot to
+// the last event that was kept there: by one more than the event's number, or 0 for none. An event that equals the one
+// at its slot is not kept again, so that repeats cost nothing.
 use super::Heard;
 use super::Wanted;
 use super::fits;
 use super::hear;
+use super::same_heard;
 ghost use mathlib.Core.Path.{_≡_};
 ghost use Prim.Native.Nat.{_<_};
 ghost use Rattle.earlier.specs.Earlier.{heardAt, fitsIn};
-ghost use Rattle.earlier.specs.Boxes.{boxOf, boxFor, latestTo, next, chainFrom, some, keptIn};
+ghost use Rattle.earlier.specs.Boxes.{boxOf, boxFor, latestTo, next, chainFrom, some, slotOf, isAgain, keptIn};
 
 const AGENTS: u16 = 64;
 
@@ -19,6 +21,10 @@ const NOTES: u16 = 64;
 pub const BOXES: usize = 128;
 
 const EVENTS: u16 = 512;
+
+const SLOTS_AT: usize = 640;
+
+const SLOTS: usize = 1024;
 
 fn box_of(h: Heard) -> u16
     ensures { λ b. ⌜ (b ≡ boxOf h) × (b < 128) ⌝ }
@@ -46,19 +52,18 @@ pub fn box_for(wanted: Wanted) -> u16
         Wanted::Sent(to, _) => to % AGENTS,
         Wanted::Session(from, _, _, _, _) => NOTES + from % AGENTS,
         Wanted::Under(_, _) => 128,
-        Wanted::Again(h) => box_of(h),
     }
 }
 
 // The latest event that was said to an agent: one more than its number, or 0.
-pub fn latest_to(boxes: &[u16; 640], to: u16) -> u16
+pub fn latest_to(boxes: &[u16; 1664], to: u16) -> u16
     ensures { λ link. ⌜ link ≡ latestTo (now (boxes .entry)) to ⌝ }
 {
     boxes[(to % AGENTS) as usize]
 }
 
 // The next link of a chain. It falls, so that every walk ends, whatever the array holds.
-pub fn next(boxes: &[u16; 640], link: u16) -> u16
+pub fn next(boxes: &[u16; 1664], link: u16) -> u16
     ensures { λ l. ⌜ l ≡ next (now (boxes .entry)) link ⌝ }
 {
     if EVENTS < link {
@@ -72,7 +77,7 @@ pub fn next(boxes: &[u16; 640], link: u16) -> u16
 }
 
 // Whether an event of the chain is what is wanted, the latest first.
-pub fn search(file: &[u8], boxes: &[u16; 640], wanted: Wanted, head: u16) -> bool
+pub fn search(file: &[u8], boxes: &[u16; 1664], wanted: Wanted, head: u16) -> bool
     ensures { λ b. ⌜ b ≡ some (λ j. fitsIn (now (file .entry)) wanted (heardAt (now (file .entry)) j)) (chainFrom (now (boxes .entry)) head) ⌝ }
 {
     let mut link = head;
@@ -86,18 +91,39 @@ pub fn search(file: &[u8], boxes: &[u16; 640], wanted: Wanted, head: u16) -> boo
     false
 }
 
-// Event e is put into its box, unless one that equals it is there.
-pub fn keep(file: &[u8], boxes: &mut [u16; 640], e: u16)
+fn slot_of(h: Heard) -> usize
+    ensures { λ s. ⌜ (s ≡ slotOf h) × (s < 1024) ⌝ }
+{
+    ((h.row as usize) * 5 + (h.from as usize) * 97 + (h.to as usize) * 31) % SLOTS
+}
+
+// Whether the link leads to an event before e that equals h.
+fn is_again(file: &[u8], e: u16, link: u16, h: Heard) -> bool
+    ensures { λ b. ⌜ b ≡ isAgain (now (file .entry)) e link h ⌝ }
+{
+    if link == 0 {
+        return false;
+    }
+    if e < link {
+        return false;
+    }
+    let g = hear(file, link - 1);
+    same_heard(g, h)
+}
+
+// Event e is put into its box, unless its slot leads to one that equals it.
+pub fn keep(file: &[u8], boxes: &mut [u16; 1664], e: u16)
     ensures { λ _. ⌜ now (boxes .exit) ≡ keptIn (now (file .entry)) (now (boxes .entry)) e ⌝ }
 {
     let h = hear(file, e);
     let at = box_of(h) as usize;
-    let head = boxes[at];
-    let again = search(file, boxes, Wanted::Again(h), head);
+    let slot = SLOTS_AT + slot_of(h);
+    let again = is_again(file, e, boxes[slot], h);
     if e < EVENTS {
         if !again {
-            boxes[BOXES + (e as usize)] = head;
+            boxes[BOXES + (e as usize)] = boxes[at];
             boxes[at] = e + 1;
+            boxes[slot] = e + 1;
         }
     }
 }

@@ -1,12 +1,12 @@
 // One search over earlier events, for what any rule looks for.
 pub mod boxes;
 
-use trace::Event;
-use trace::EventNo;
 ghost use mathlib.Core.Path.{_≡_};
-ghost use Rattle.earlier.specs.Earlier.{heardAt, saidTo, saidBy, notedBy, isHello, isReply, sameHeard, fitsIn, earlier};
+ghost use Rattle.earlier.specs.Earlier.{heardAt, saidTo, saidBy, notedBy, isHello, isHelloFor, isReply, isReplyWith, sameHeard, fitsIn, earlier};
 ghost use Rattle.earlier.specs.Boxes.{found};
-ghost use Rattle.earlier.specs.declared.Wanted.the-variants.{HelloFor, HelloBy, HelloTo, ReplyWith, ReplyTo, ReplyBy, Cert, Secret, Sent, Session, Under, Again};
+ghost use Rattle.earlier.specs.declared.Wanted.the-variants.{HelloFor, HelloBy, HelloTo, ReplyWith, ReplyTo, ReplyBy, Cert, Secret, Sent, Session, Under};
+
+const SAYS: u16 = 0;
 
 // An event, flat: a note has no receiver.
 pub struct Heard {
@@ -40,27 +40,26 @@ pub enum Wanted {
     Session(u16, u16, u16, u16, u16),
     // A said something under a key to anyone: A, the key.
     Under(u16, u16),
-    // An event that equals this one.
-    Again(Heard),
 }
 
 pub fn hear(file: &[u8], e: u16) -> Heard
     ensures { λ h. ⌜ h ≡ heardAt (now (file .entry)) e ⌝ }
 {
-    let event = trace::event_at(file, EventNo(e));
-    match event {
-        Event::Says(a, b, r) => Heard {
+    let p = trace::events::parts_at(file, e);
+    if p.kind == SAYS {
+        Heard {
             says: true,
-            from: a.0,
-            to: b.0,
-            row: r.0,
-        },
-        Event::Notes(a, r) => Heard {
+            from: p.sender,
+            to: p.receiver,
+            row: p.row,
+        }
+    } else {
+        Heard {
             says: false,
-            from: a.0,
+            from: p.sender,
             to: 0,
-            row: r.0,
-        },
+            row: p.row,
+        }
     }
 }
 
@@ -82,15 +81,30 @@ pub fn noted_by(h: Heard, from: u16) -> bool
     (!h.says) & (h.from == from)
 }
 
-// Nonces tell most hellos apart, so they are compared before the whole message is read.
+// Of a message only the parts that are asked for are compared first; it is read whole where they fit.
 fn is_hello(file: &[u8], r: u16, agent: u16, na: u16, sid: u16, pa: u16) -> bool
     ensures { λ b. ⌜ b ≡ isHello (now (file .entry)) r agent na sid pa ⌝ }
 {
     let p = forms::leaves::pair_of(file, r);
     let q = forms::leaves::pair_of(file, p.second);
-    if (p.is) & (q.first == na) {
+    let s = forms::leaves::pair_of(file, q.second);
+    if (p.is) & (q.first == na) & (s.first == sid) & (s.second == pa) {
         let m = forms::client_hello(file, r);
         (m.is) & (m.agent == agent) & (m.na == na) & (m.sid == sid) & (m.pa == pa)
+    } else {
+        false
+    }
+}
+
+fn is_hello_for(file: &[u8], r: u16, agent: u16, sid: u16) -> bool
+    ensures { λ b. ⌜ b ≡ isHelloFor (now (file .entry)) r agent sid ⌝ }
+{
+    let p = forms::leaves::pair_of(file, r);
+    let q = forms::leaves::pair_of(file, p.second);
+    let s = forms::leaves::pair_of(file, q.second);
+    if (p.is) & (s.first == sid) {
+        let m = forms::client_hello(file, r);
+        (m.is) & (m.agent == agent) & (m.sid == sid)
     } else {
         false
     }
@@ -100,9 +114,22 @@ fn is_reply(file: &[u8], r: u16, nb: u16, sid: u16, pb: u16) -> bool
     ensures { λ b. ⌜ b ≡ isReply (now (file .entry)) r nb sid pb ⌝ }
 {
     let p = forms::leaves::pair_of(file, r);
-    if (p.is) & (p.first == nb) {
+    let q = forms::leaves::pair_of(file, p.second);
+    if (p.is) & (p.first == nb) & (q.first == sid) & (q.second == pb) {
         let m = forms::server_hello(file, r);
         (m.is) & (m.nb == nb) & (m.sid == sid) & (m.pb == pb)
+    } else {
+        false
+    }
+}
+
+fn is_reply_with(file: &[u8], r: u16, nb: u16) -> bool
+    ensures { λ b. ⌜ b ≡ isReplyWith (now (file .entry)) r nb ⌝ }
+{
+    let p = forms::leaves::pair_of(file, r);
+    if (p.is) & (p.first == nb) {
+        let m = forms::server_hello(file, r);
+        (m.is) & (m.nb == nb)
     } else {
         false
     }
@@ -113,8 +140,7 @@ fn hello_for(file: &[u8], h: Heard, to: u16, agent: u16, sid: u16) -> bool
 {
     let said = said_to(h, to);
     if said {
-        let m = forms::client_hello(file, h.row);
-        (m.is) & (m.agent == agent) & (m.sid == sid)
+        is_hello_for(file, h.row, agent, sid)
     } else {
         false
     }
@@ -125,8 +151,7 @@ fn reply_with(file: &[u8], h: Heard, to: u16, nb: u16) -> bool
 {
     let said = said_to(h, to);
     if said {
-        let m = forms::server_hello(file, h.row);
-        (m.is) & (m.nb == nb)
+        is_reply_with(file, h.row, nb)
     } else {
         false
     }
@@ -263,7 +288,6 @@ fn fits(file: &[u8], wanted: Wanted, e: u16) -> bool
         Wanted::Sent(to, secret) => exchanged(file, h, to, secret),
         Wanted::Session(from, sid, a, b, m) => remembered(file, h, from, sid, a, b, m),
         Wanted::Under(from, key) => closed(file, h, from, key),
-        Wanted::Again(g) => same_heard(h, g),
     }
 }
 
@@ -283,7 +307,7 @@ fn look_back(file: &[u8], wanted: Wanted, e: u16) -> bool
 }
 
 // Whether some event before e is what is wanted. The message is read only where sender and receiver fit.
-pub fn happened(file: &[u8], boxes: &[u16; 640], wanted: Wanted, e: u16) -> bool
+pub fn happened(file: &[u8], boxes: &[u16; 1664], wanted: Wanted, e: u16) -> bool
     ensures { λ b. ⌜ b ≡ found (now (file .entry)) (now (boxes .entry)) e wanted ⌝ }
 {
     let at = boxes::box_for(wanted) as usize;

@@ -31,7 +31,7 @@ fn with_prf(is: bool, m: Sealed, p: Three) -> bool
 }
 
 // Rule 8: ClientFinished.
-pub fn client_finished(file: &[u8], boxes: &[u16; 640], e: u16, h: Heard) -> bool
+pub fn client_finished(file: &[u8], boxes: &[u16; 1664], e: u16, h: Heard) -> bool
     ensures { λ b. ⌜ b ≡ clientFinished (now (file .entry)) (found (now (file .entry)) (now (boxes .entry)) e) h ⌝ }
 {
     if h.says {
@@ -71,7 +71,7 @@ pub fn client_finished(file: &[u8], boxes: &[u16; 640], e: u16, h: Heard) -> boo
 }
 
 // Rule 9: ServerFinished.
-pub fn server_finished(file: &[u8], boxes: &[u16; 640], e: u16, h: Heard) -> bool
+pub fn server_finished(file: &[u8], boxes: &[u16; 1664], e: u16, h: Heard) -> bool
     ensures { λ b. ⌜ b ≡ serverFinished (now (file .entry)) (found (now (file .entry)) (now (boxes .entry)) e) h ⌝ }
 {
     if h.says {
@@ -106,7 +106,7 @@ pub fn server_finished(file: &[u8], boxes: &[u16; 640], e: u16, h: Heard) -> boo
 }
 
 // Rule 12: ClientResume.
-pub fn client_resume(file: &[u8], boxes: &[u16; 640], e: u16, h: Heard) -> bool
+pub fn client_resume(file: &[u8], boxes: &[u16; 1664], e: u16, h: Heard) -> bool
     ensures { λ b. ⌜ b ≡ clientResume (now (file .entry)) (found (now (file .entry)) (now (boxes .entry)) e) h ⌝ }
 {
     if h.says {
@@ -144,7 +144,7 @@ pub fn client_resume(file: &[u8], boxes: &[u16; 640], e: u16, h: Heard) -> bool
 }
 
 // Rule 13: ServerResume.
-pub fn server_resume(file: &[u8], boxes: &[u16; 640], e: u16, h: Heard) -> bool
+pub fn server_resume(file: &[u8], boxes: &[u16; 1664], e: u16, h: Heard) -> bool
     ensures { λ b. ⌜ b ≡ serverResume (now (file .entry)) (found (now (file .entry)) (now (boxes .entry)) e) h ⌝ }
 {
     if h.says {

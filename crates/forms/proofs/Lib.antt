@@ -1,3 +1,4 @@
+pub mod Fields
 pub mod Flags
 pub mod Inverts
 pub mod Links

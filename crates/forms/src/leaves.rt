@@ -1,9 +1,30 @@
 // One row by its kind: a flag, and fields that mean nothing unless it is true.
-use trace::Role;
-use trace::Row;
-use trace::RowNo;
 ghost use mathlib.Core.Path.{_≡_};
-ghost use Rattle.forms.specs.Kinds.{serverIn, agentOf, publicOf, privateOf, hashOf, pairOf, cryptOf, prfOf, sessionOf, isNumber, isNonce, isPlain, isKey};
+ghost use Rattle.forms.specs.Kinds.{agentOf, publicOf, privateOf, hashOf, pairOf, cryptOf, prfOf, sessionOf, isNumber, isNonce, isPlain, isKey};
+
+// The kinds of rows; `trace` reads a kind above 9 as a pair too.
+const AGENT: u16 = 0;
+
+const NUMBER: u16 = 1;
+
+const NONCE: u16 = 2;
+
+const PRF: u16 = 3;
+
+const PUBLIC_KEY: u16 = 4;
+
+const PRIVATE_KEY: u16 = 5;
+
+const SESSION_KEY: u16 = 6;
+
+const HASH: u16 = 7;
+
+const CRYPT: u16 = 8;
+
+const PAIR: u16 = 9;
+
+// The role of a client in a session key's row.
+const CLIENT: u16 = 0;
 
 pub struct One {
     pub is: bool,
@@ -31,61 +52,29 @@ pub struct Session {
     pub third: u16,
 }
 
-pub fn is_server(role: Role) -> bool
-    ensures { λ b. ⌜ b ≡ serverIn role ⌝ }
-{
-    match role {
-        Role::Client => false,
-        Role::Server => true,
-    }
-}
+const NO_ONE: One = One {
+    is: false,
+    first: 0,
+};
+
+const NO_TWO: Two = Two {
+    is: false,
+    first: 0,
+    second: 0,
+};
 
 // An agent's number.
 pub fn agent_of(file: &[u8], r: u16) -> One
     ensures { λ s. ⌜ s ≡ agentOf (now (file .entry)) r ⌝ }
 {
-    let row = trace::row_at(file, RowNo(r));
-    match row {
-        Row::Agent(x) => One {
+    let f = trace::rows::fields_at(file, r);
+    if f.kind == AGENT {
+        One {
             is: true,
-            first: x.0,
-        },
-        Row::Number(_) => One {
-            is: false,
-            first: 0,
-        },
-        Row::Nonce(_) => One {
-            is: false,
-            first: 0,
-        },
-        Row::Prf(_, _, _) => One {
-            is: false,
-            first: 0,
-        },
-        Row::PublicKey(_) => One {
-            is: false,
-            first: 0,
-        },
-        Row::PrivateKey(_) => One {
-            is: false,
-            first: 0,
-        },
-        Row::SessionKey(_, _, _, _) => One {
-            is: false,
-            first: 0,
-        },
-        Row::Hash(_) => One {
-            is: false,
-            first: 0,
-        },
-        Row::Crypt(_, _) => One {
-            is: false,
-            first: 0,
-        },
-        Row::Pair(_, _) => One {
-            is: false,
-            first: 0,
-        },
+            first: f.first,
+        }
+    } else {
+        NO_ONE
     }
 }
 
@@ -93,48 +82,14 @@ pub fn agent_of(file: &[u8], r: u16) -> One
 pub fn public_of(file: &[u8], r: u16) -> One
     ensures { λ s. ⌜ s ≡ publicOf (now (file .entry)) r ⌝ }
 {
-    let row = trace::row_at(file, RowNo(r));
-    match row {
-        Row::Agent(_) => One {
-            is: false,
-            first: 0,
-        },
-        Row::Number(_) => One {
-            is: false,
-            first: 0,
-        },
-        Row::Nonce(_) => One {
-            is: false,
-            first: 0,
-        },
-        Row::Prf(_, _, _) => One {
-            is: false,
-            first: 0,
-        },
-        Row::PublicKey(x) => One {
+    let f = trace::rows::fields_at(file, r);
+    if f.kind == PUBLIC_KEY {
+        One {
             is: true,
-            first: x.0,
-        },
-        Row::PrivateKey(_) => One {
-            is: false,
-            first: 0,
-        },
-        Row::SessionKey(_, _, _, _) => One {
-            is: false,
-            first: 0,
-        },
-        Row::Hash(_) => One {
-            is: false,
-            first: 0,
-        },
-        Row::Crypt(_, _) => One {
-            is: false,
-            first: 0,
-        },
-        Row::Pair(_, _) => One {
-            is: false,
-            first: 0,
-        },
+            first: f.first,
+        }
+    } else {
+        NO_ONE
     }
 }
 
@@ -142,48 +97,14 @@ pub fn public_of(file: &[u8], r: u16) -> One
 pub fn private_of(file: &[u8], r: u16) -> One
     ensures { λ s. ⌜ s ≡ privateOf (now (file .entry)) r ⌝ }
 {
-    let row = trace::row_at(file, RowNo(r));
-    match row {
-        Row::Agent(_) => One {
-            is: false,
-            first: 0,
-        },
-        Row::Number(_) => One {
-            is: false,
-            first: 0,
-        },
-        Row::Nonce(_) => One {
-            is: false,
-            first: 0,
-        },
-        Row::Prf(_, _, _) => One {
-            is: false,
-            first: 0,
-        },
-        Row::PublicKey(_) => One {
-            is: false,
-            first: 0,
-        },
-        Row::PrivateKey(x) => One {
+    let f = trace::rows::fields_at(file, r);
+    if f.kind == PRIVATE_KEY {
+        One {
             is: true,
-            first: x.0,
-        },
-        Row::SessionKey(_, _, _, _) => One {
-            is: false,
-            first: 0,
-        },
-        Row::Hash(_) => One {
-            is: false,
-            first: 0,
-        },
-        Row::Crypt(_, _) => One {
-            is: false,
-            first: 0,
-        },
-        Row::Pair(_, _) => One {
-            is: false,
-            first: 0,
-        },
+            first: f.first,
+        }
+    } else {
+        NO_ONE
     }
 }
 
@@ -191,48 +112,14 @@ pub fn private_of(file: &[u8], r: u16) -> One
 pub fn hash_of(file: &[u8], r: u16) -> One
     ensures { λ s. ⌜ s ≡ hashOf (now (file .entry)) r ⌝ }
 {
-    let row = trace::row_at(file, RowNo(r));
-    match row {
-        Row::Agent(_) => One {
-            is: false,
-            first: 0,
-        },
-        Row::Number(_) => One {
-            is: false,
-            first: 0,
-        },
-        Row::Nonce(_) => One {
-            is: false,
-            first: 0,
-        },
-        Row::Prf(_, _, _) => One {
-            is: false,
-            first: 0,
-        },
-        Row::PublicKey(_) => One {
-            is: false,
-            first: 0,
-        },
-        Row::PrivateKey(_) => One {
-            is: false,
-            first: 0,
-        },
-        Row::SessionKey(_, _, _, _) => One {
-            is: false,
-            first: 0,
-        },
-        Row::Hash(x) => One {
+    let f = trace::rows::fields_at(file, r);
+    if f.kind == HASH {
+        One {
             is: true,
-            first: x.0,
-        },
-        Row::Crypt(_, _) => One {
-            is: false,
-            first: 0,
-        },
-        Row::Pair(_, _) => One {
-            is: false,
-            first: 0,
-        },
+            first: f.first,
+        }
+    } else {
+        NO_ONE
     }
 }
 
@@ -240,58 +127,15 @@ pub fn hash_of(file: &[u8], r: u16) -> One
 pub fn pair_of(file: &[u8], r: u16) -> Two
     ensures { λ s. ⌜ s ≡ pairOf (now (file .entry)) r ⌝ }
 {
-    let row = trace::row_at(file, RowNo(r));
-    match row {
-        Row::Agent(_) => Two {
-            is: false,
-            first: 0,
-            second: 0,
-        },
-        Row::Number(_) => Two {
-            is: false,
-            first: 0,
-            second: 0,
-        },
-        Row::Nonce(_) => Two {
-            is: false,
-            first: 0,
-            second: 0,
-        },
-        Row::Prf(_, _, _) => Two {
-            is: false,
-            first: 0,
-            second: 0,
-        },
-        Row::PublicKey(_) => Two {
-            is: false,
-            first: 0,
-            second: 0,
-        },
-        Row::PrivateKey(_) => Two {
-            is: false,
-            first: 0,
-            second: 0,
-        },
-        Row::SessionKey(_, _, _, _) => Two {
-            is: false,
-            first: 0,
-            second: 0,
-        },
-        Row::Hash(_) => Two {
-            is: false,
-            first: 0,
-            second: 0,
-        },
-        Row::Crypt(_, _) => Two {
-            is: false,
-            first: 0,
-            second: 0,
-        },
-        Row::Pair(x, y) => Two {
+    let f = trace::rows::fields_at(file, r);
+    if f.kind < PAIR {
+        NO_TWO
+    } else {
+        Two {
             is: true,
-            first: x.0,
-            second: y.0,
-        },
+            first: f.first,
+            second: f.second,
+        }
     }
 }
 
@@ -299,58 +143,15 @@ pub fn pair_of(file: &[u8], r: u16) -> Two
 pub fn crypt_of(file: &[u8], r: u16) -> Two
     ensures { λ s. ⌜ s ≡ cryptOf (now (file .entry)) r ⌝ }
 {
-    let row = trace::row_at(file, RowNo(r));
-    match row {
-        Row::Agent(_) => Two {
-            is: false,
-            first: 0,
-            second: 0,
-        },
-        Row::Number(_) => Two {
-            is: false,
-            first: 0,
-            second: 0,
-        },
-        Row::Nonce(_) => Two {
-            is: false,
-            first: 0,
-            second: 0,
-        },
-        Row::Prf(_, _, _) => Two {
-            is: false,
-            first: 0,
-            second: 0,
-        },
-        Row::PublicKey(_) => Two {
-            is: false,
-            first: 0,
-            second: 0,
-        },
-        Row::PrivateKey(_) => Two {
-            is: false,
-            first: 0,
-            second: 0,
-        },
-        Row::SessionKey(_, _, _, _) => Two {
-            is: false,
-            first: 0,
-            second: 0,
-        },
-        Row::Hash(_) => Two {
-            is: false,
-            first: 0,
-            second: 0,
-        },
-        Row::Crypt(x, y) => Two {
+    let f = trace::rows::fields_at(file, r);
+    if f.kind == CRYPT {
+        Two {
             is: true,
-            first: x.0,
-            second: y.0,
-        },
-        Row::Pair(_, _) => Two {
-            is: false,
-            first: 0,
-            second: 0,
-        },
+            first: f.first,
+            second: f.second,
+        }
+    } else {
+        NO_TWO
     }
 }
 
@@ -358,68 +159,21 @@ pub fn crypt_of(file: &[u8], r: u16) -> Two
 pub fn prf_of(file: &[u8], r: u16) -> Three
     ensures { λ s. ⌜ s ≡ prfOf (now (file .entry)) r ⌝ }
 {
-    let row = trace::row_at(file, RowNo(r));
-    match row {
-        Row::Agent(_) => Three {
-            is: false,
-            first: 0,
-            second: 0,
-            third: 0,
-        },
-        Row::Number(_) => Three {
-            is: false,
-            first: 0,
-            second: 0,
-            third: 0,
-        },
-        Row::Nonce(_) => Three {
-            is: false,
-            first: 0,
-            second: 0,
-            third: 0,
-        },
-        Row::Prf(x, y, z) => Three {
+    let f = trace::rows::fields_at(file, r);
+    if f.kind == PRF {
+        Three {
             is: true,
-            first: x.0,
-            second: y.0,
-            third: z.0,
-        },
-        Row::PublicKey(_) => Three {
+            first: f.first,
+            second: f.second,
+            third: f.third,
+        }
+    } else {
+        Three {
             is: false,
             first: 0,
             second: 0,
             third: 0,
-        },
-        Row::PrivateKey(_) => Three {
-            is: false,
-            first: 0,
-            second: 0,
-            third: 0,
-        },
-        Row::SessionKey(_, _, _, _) => Three {
-            is: false,
-            first: 0,
-            second: 0,
-            third: 0,
-        },
-        Row::Hash(_) => Three {
-            is: false,
-            first: 0,
-            second: 0,
-            third: 0,
-        },
-        Row::Crypt(_, _) => Three {
-            is: false,
-            first: 0,
-            second: 0,
-            third: 0,
-        },
-        Row::Pair(_, _) => Three {
-            is: false,
-            first: 0,
-            second: 0,
-            third: 0,
-        },
+        }
     }
 }
 
@@ -427,150 +181,54 @@ pub fn prf_of(file: &[u8], r: u16) -> Three
 pub fn session_of(file: &[u8], r: u16) -> Session
     ensures { λ s. ⌜ s ≡ sessionOf (now (file .entry)) r ⌝ }
 {
-    let row = trace::row_at(file, RowNo(r));
-    match row {
-        Row::Agent(_) => Session {
-            is: false,
-            server: false,
-            first: 0,
-            second: 0,
-            third: 0,
-        },
-        Row::Number(_) => Session {
-            is: false,
-            server: false,
-            first: 0,
-            second: 0,
-            third: 0,
-        },
-        Row::Nonce(_) => Session {
-            is: false,
-            server: false,
-            first: 0,
-            second: 0,
-            third: 0,
-        },
-        Row::Prf(_, _, _) => Session {
-            is: false,
-            server: false,
-            first: 0,
-            second: 0,
-            third: 0,
-        },
-        Row::PublicKey(_) => Session {
-            is: false,
-            server: false,
-            first: 0,
-            second: 0,
-            third: 0,
-        },
-        Row::PrivateKey(_) => Session {
-            is: false,
-            server: false,
-            first: 0,
-            second: 0,
-            third: 0,
-        },
-        Row::SessionKey(o, x, y, z) => Session {
+    let f = trace::rows::fields_at(file, r);
+    if f.kind == SESSION_KEY {
+        Session {
             is: true,
-            server: is_server(o),
-            first: x.0,
-            second: y.0,
-            third: z.0,
-        },
-        Row::Hash(_) => Session {
+            server: f.role != CLIENT,
+            first: f.first,
+            second: f.second,
+            third: f.third,
+        }
+    } else {
+        Session {
             is: false,
             server: false,
             first: 0,
             second: 0,
             third: 0,
-        },
-        Row::Crypt(_, _) => Session {
-            is: false,
-            server: false,
-            first: 0,
-            second: 0,
-            third: 0,
-        },
-        Row::Pair(_, _) => Session {
-            is: false,
-            server: false,
-            first: 0,
-            second: 0,
-            third: 0,
-        },
+        }
     }
 }
 
+// A number, which anyone can guess.
 pub fn is_number(file: &[u8], r: u16) -> bool
     ensures { λ s. ⌜ s ≡ isNumber (now (file .entry)) r ⌝ }
 {
-    let row = trace::row_at(file, RowNo(r));
-    match row {
-        Row::Agent(_) => false,
-        Row::Number(_) => true,
-        Row::Nonce(_) => false,
-        Row::Prf(_, _, _) => false,
-        Row::PublicKey(_) => false,
-        Row::PrivateKey(_) => false,
-        Row::SessionKey(_, _, _, _) => false,
-        Row::Hash(_) => false,
-        Row::Crypt(_, _) => false,
-        Row::Pair(_, _) => false,
-    }
+    let f = trace::rows::fields_at(file, r);
+    f.kind == NUMBER
 }
 
 // Plain, or of the pseudo-random function.
 pub fn is_nonce(file: &[u8], r: u16) -> bool
     ensures { λ s. ⌜ s ≡ isNonce (now (file .entry)) r ⌝ }
 {
-    let row = trace::row_at(file, RowNo(r));
-    match row {
-        Row::Agent(_) => false,
-        Row::Number(_) => false,
-        Row::Nonce(_) => true,
-        Row::Prf(_, _, _) => true,
-        Row::PublicKey(_) => false,
-        Row::PrivateKey(_) => false,
-        Row::SessionKey(_, _, _, _) => false,
-        Row::Hash(_) => false,
-        Row::Crypt(_, _) => false,
-        Row::Pair(_, _) => false,
-    }
+    let f = trace::rows::fields_at(file, r);
+    (f.kind == NONCE) | (f.kind == PRF)
 }
 
+// A plain nonce.
 pub fn is_plain(file: &[u8], r: u16) -> bool
     ensures { λ s. ⌜ s ≡ isPlain (now (file .entry)) r ⌝ }
 {
-    let row = trace::row_at(file, RowNo(r));
-    match row {
-        Row::Agent(_) => false,
-        Row::Number(_) => false,
-        Row::Nonce(_) => true,
-        Row::Prf(_, _, _) => false,
-        Row::PublicKey(_) => false,
-        Row::PrivateKey(_) => false,
-        Row::SessionKey(_, _, _, _) => false,
-        Row::Hash(_) => false,
-        Row::Crypt(_, _) => false,
-        Row::Pair(_, _) => false,
-    }
+    let f = trace::rows::fields_at(file, r);
+    f.kind == NONCE
 }
 
+// Public, private, or of a session.
 pub fn is_key(file: &[u8], r: u16) -> bool
     ensures { λ s. ⌜ s ≡ isKey (now (file .entry)) r ⌝ }
 {
-    let row = trace::row_at(file, RowNo(r));
-    match row {
-        Row::Agent(_) => false,
-        Row::Number(_) => false,
-        Row::Nonce(_) => false,
-        Row::Prf(_, _, _) => false,
-        Row::PublicKey(_) => true,
-        Row::PrivateKey(_) => true,
-        Row::SessionKey(_, _, _, _) => true,
-        Row::Hash(_) => false,
-        Row::Crypt(_, _) => false,
-        Row::Pair(_, _) => false,
-    }
+    let f = trace::rows::fields_at(file, r);
+    (f.kind == PUBLIC_KEY) | (f.kind == PRIVATE_KEY) | (f.kind == SESSION_KEY)
 }

@@ -37,15 +37,10 @@ returns-10 c = rw (c .before .before .wanted10 .given .1, ← c .before .before 
 returns-11 : tie.Need-returns-11
 returns-11 c = rw (c .before .before .wanted11 .given .1, ← c .before .before .before .before .hear .ensures) (c .closed .ensures)
 
-returns-12 : tie.Need-returns-12
-returns-12 c = rw (c .before .before .wanted12 .given .1, ← c .before .before .before .before .hear .ensures) (c .same-heard .ensures)
-
 pub fits-spec : {M : Type 1} → statement M
 fits-spec =
     tie.close
     (tie.spec
-    (λ c κs. search needs)
-    (λ c. search needs)
     (λ c κs. search needs)
     (λ c. search needs)
     (λ c κs. search needs)
@@ -79,5 +74,4 @@ fits-spec =
     returns-8
     returns-9
     returns-10
-    returns-11
-    returns-12)
+    returns-11)

@@ -6,7 +6,7 @@ use Rattle.earlier.proofs.hello_for.Statement.{statement}
 use Rattle.earlier.proofs.hello_for.Tie as tie
 
 returns : tie.Need-returns
-returns c = rw (c .before .before .before .client-hello .ensures, sym (c .before .before .before .before .before .said-to .ensures) ∙ c .before .before .before .before .if1 .taken) refl
+returns c = rw (c .is-hello-for .ensures, sym (c .before .before .said-to .ensures) ∙ c .before .if1 .taken) refl
 
 returns-2 : tie.Need-returns-2
 returns-2 c = rw (sym (c .before .said-to .ensures) ∙ c .if1 .left) refl

@@ -1,4 +1,4 @@
--- `earlier::is_hello` meets its contract: the message is read where its outer parts fit, and else it is another.
+-- `earlier::is_hello` meets its contract: the message is read where the parts that are asked for fit, and else it is another.
 -- Assumes nothing.
 use mathlib.Core.Path.{refl}
 use denote.Ref.{now}
@@ -12,8 +12,8 @@ returns c = rw (c .before .before .before .before .before .client-hello .ensures
 
 returns-2 : tie.Need-returns-2
 returns-2 c =
-    let a = c .before .before .before .before .before .before .args in
-    other-hello (now (a .file)) (a .r) (a .agent) (a .na) (a .sid) (a .pa) (rw (c .before .before .before .pair-of2 .ensures, c .before .before .before .before .pair-of .ensures) at (c .if1 .left))
+    let a = c .before .before .before .before .before .before .before .before .before .args in
+    other-hello (now (a .file)) (a .r) (a .agent) (a .na) (a .sid) (a .pa) (rw (c .before .before .before .before .before .pair-of3 .ensures, c .before .before .before .before .before .before .pair-of2 .ensures, c .before .before .before .before .before .before .before .pair-of .ensures) at (c .if1 .left))
 
 pub is-hello-spec : {M : Type 1} → statement M
-is-hello-spec = tie.close (tie.spec (λ c κs. search needs) (λ c κs. search needs) (λ c κs. search needs) returns returns-2)
+is-hello-spec = tie.close (tie.spec (λ c κs. search needs) (λ c κs. search needs) (λ c κs. search needs) (λ c κs. search needs) returns returns-2)

@@ -38,9 +38,6 @@ returns-10 c = rw (c .before .wanted10 .given .1) refl
 returns-11 : tie.Need-returns-11
 returns-11 c = search needs
 
-returns-12 : tie.Need-returns-12
-returns-12 c = rw (c .before .before .wanted11 .given .1) (c .box-of .ensures .0)
-
 pub box-for-spec : {M : Type 1} → statement M
 box-for-spec =
     tie.close
@@ -58,8 +55,6 @@ box-for-spec =
     (λ c. search needs)
     (λ c. search needs)
     (λ c. search needs)
-    (λ c. search needs)
-    (λ c κs. search needs)
     returns
     returns-2
     returns-3
@@ -70,5 +65,4 @@ box-for-spec =
     returns-8
     returns-9
     returns-10
-    returns-11
-    returns-12)
+    returns-11)

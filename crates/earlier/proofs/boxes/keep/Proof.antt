@@ -8,21 +8,21 @@ use Rattle.earlier.proofs.boxes.keep.Tie as tie
 
 returns : tie.Need-returns
 returns c =
-    let a = c .before .before .before .before .before .before .before .before .args in
-    keep-new (now (a .file)) (now (a .boxes)) (a .e) (c .before .before .before .before .before .before .hear .ensures)
-    (c .before .before .before .before .before .box-of .ensures .0) (c .before .before .search .ensures) (c .before .if1 .taken) (c .if2 .taken)
+    let a = c .before .before .before .before .before .before .before .before .before .args in
+    keep-new (now (a .file)) (now (a .boxes)) (a .e) (c .before .before .before .before .before .before .before .hear .ensures) (c .before .before .before .before .before .before .box-of .ensures .0) (c .before .before .before .before .before .slot-of .ensures .0) (c .before .before .before .is-again .ensures)
+    (c .before .before .if1 .taken) (c .before .if2 .taken)
 
 returns-2 : tie.Need-returns-2
 returns-2 c =
     let a = c .before .before .before .before .before .before .before .before .args in
-    keep-old (now (a .file)) (now (a .boxes)) (a .e) (c .before .before .before .before .before .before .hear .ensures)
-    (c .before .before .before .before .before .box-of .ensures .0) (c .before .before .search .ensures) (c .before .if1 .taken) (c .if2 .left)
+    keep-old (now (a .file)) (now (a .boxes)) (a .e) (c .before .before .before .before .before .before .hear .ensures) (c .before .before .before .before .before .box-of .ensures .0) (c .before .before .before .before .slot-of .ensures .0) (c .before .before .is-again .ensures)
+    (c .before .if1 .taken) (c .if2 .left)
 
 returns-3 : tie.Need-returns-3
 returns-3 c =
     let a = c .before .before .before .before .before .before .before .args in
-    keep-past (now (a .file)) (now (a .boxes)) (a .e) (c .before .before .before .before .before .hear .ensures)
-    (c .before .before .before .before .box-of .ensures .0) (c .before .search .ensures) (c .if1 .left)
+    keep-past (now (a .file)) (now (a .boxes)) (a .e) (c .before .before .before .before .before .hear .ensures) (c .before .before .before .before .box-of .ensures .0) (c .before .before .before .slot-of .ensures .0) (c .before .is-again .ensures)
+    (c .if1 .left)
 
 pub keep-spec : {M : Type 1} → statement M
 keep-spec =
@@ -31,9 +31,16 @@ keep-spec =
     (λ c κs. search needs)
     (λ c κs. search needs)
     (λ c. search needs)
+    (λ c κs. search needs)
+    (λ c. search needs)
     (λ c. search needs)
     (λ c. search needs)
     (λ c κs. search needs)
+    (λ c. search needs)
+    (λ c. search needs)
+    (λ c. search needs)
+    (λ c. search needs)
+    (λ c. search needs)
     (λ c. search needs)
     (λ c. search needs)
     (λ c. search needs)

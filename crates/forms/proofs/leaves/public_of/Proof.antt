@@ -1,73 +1,24 @@
--- `forms::leaves::public_of` meets its contract: in each arm the kind is known.
+-- `forms::leaves::public_of` meets its contract: the kind says which row it is.
 -- Assumes nothing.
 use mathlib.Core.Path.{refl}
+use borrow.Author.Tests.{eq-eqb, ne-eqb}
 use Rattle.forms.specs.Kinds.{publicOf}
+use Rattle.forms.proofs.Fields.{public-at}
 use borrow.Author.Needs.{needs}
 use Rattle.forms.proofs.leaves.public_of.Statement.{statement}
 use Rattle.forms.proofs.leaves.public_of.Tie as tie
 
 returns : tie.Need-returns
 unfolding publicOf
-returns c = rw (← c .before .before .row-at .ensures, c .enum-told .given .1) refl
+returns c =
+    let f = c .before .before .fields-at in
+    rw (← f .ensures, public-at (f .result), eq-eqb _ _ (c .if1 .taken)) refl
 
 returns-2 : tie.Need-returns-2
 unfolding publicOf
-returns-2 c = rw (← c .before .before .row-at .ensures, c .enum-told2 .given .1) refl
-
-returns-3 : tie.Need-returns-3
-unfolding publicOf
-returns-3 c = rw (← c .before .before .row-at .ensures, c .enum-told3 .given .1) refl
-
-returns-4 : tie.Need-returns-4
-unfolding publicOf
-returns-4 c = rw (← c .before .before .row-at .ensures, c .enum-told4 .given .1) refl
-
-returns-5 : tie.Need-returns-5
-unfolding publicOf
-returns-5 c = rw (← c .before .before .before .row-at .ensures, c .before .row .given .1) refl
-
-returns-6 : tie.Need-returns-6
-unfolding publicOf
-returns-6 c = rw (← c .before .before .row-at .ensures, c .enum-told5 .given .1) refl
-
-returns-7 : tie.Need-returns-7
-unfolding publicOf
-returns-7 c = rw (← c .before .before .row-at .ensures, c .enum-told6 .given .1) refl
-
-returns-8 : tie.Need-returns-8
-unfolding publicOf
-returns-8 c = rw (← c .before .before .row-at .ensures, c .enum-told7 .given .1) refl
-
-returns-9 : tie.Need-returns-9
-unfolding publicOf
-returns-9 c = rw (← c .before .before .row-at .ensures, c .enum-told8 .given .1) refl
-
-returns-10 : tie.Need-returns-10
-unfolding publicOf
-returns-10 c = rw (← c .before .before .row-at .ensures, c .enum-told9 .given .1) refl
+returns-2 c =
+    let f = c .before .before .fields-at in
+    rw (← f .ensures, public-at (f .result), ne-eqb _ _ (c .if1 .left)) refl
 
 pub public-of-spec : {M : Type 1} → statement M
-public-of-spec =
-    tie.close
-    (tie.spec
-    (λ c κs. search needs)
-    (λ c. search needs)
-    (λ c. search needs)
-    (λ c. search needs)
-    (λ c. search needs)
-    (λ c. search needs)
-    (λ c. search needs)
-    (λ c. search needs)
-    (λ c. search needs)
-    (λ c. search needs)
-    (λ c. search needs)
-    returns
-    returns-2
-    returns-3
-    returns-4
-    returns-5
-    returns-6
-    returns-7
-    returns-8
-    returns-9
-    returns-10)
+public-of-spec = tie.close (tie.spec (λ c κs. search needs) returns returns-2)
