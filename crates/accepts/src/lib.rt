@@ -241,14 +241,14 @@ fn noted_by_server(h: Heard, n: Remembered, p: Three) -> bool
 
 // Rule 10: ClientAccepts.
 pub fn client_accepts(file: &[u8], boxes: &[u16; 1664], e: u16, h: Heard) -> bool
-    ensures { λ b. ⌜ b ≡ clientAccepts (now (file .entry)) (found (now (file .entry)) (now (boxes .entry)) e) (bothIn (now (file .entry)) (now (boxes .entry)) e) h ⌝ }
+    ensures { λ b. ⌜ b ≡ clientAccepts (now (file .entry)) (found (now (file .entry)) (now (boxes .entry))) (bothIn (now (file .entry)) (now (boxes .entry)) e) h ⌝ }
 {
     if !h.says {
         let n = forms::session_note(file, h.row);
         let p = forms::leaves::prf_of(file, n.m);
         let fits = noted_by_client(h, n, p);
         if fits {
-            let secret = earlier::happened(file, boxes, Wanted::Secret(h.from, n.b, p.first), e);
+            let secret = earlier::happened(file, boxes, Wanted::Secret(h.from, n.b, p.first));
             if secret {
                 return both_finished(
                     file,
@@ -272,14 +272,14 @@ pub fn client_accepts(file: &[u8], boxes: &[u16; 1664], e: u16, h: Heard) -> boo
 
 // Rule 11: ServerAccepts.
 pub fn server_accepts(file: &[u8], boxes: &[u16; 1664], e: u16, h: Heard) -> bool
-    ensures { λ b. ⌜ b ≡ serverAccepts (now (file .entry)) (found (now (file .entry)) (now (boxes .entry)) e) (bothIn (now (file .entry)) (now (boxes .entry)) e) h ⌝ }
+    ensures { λ b. ⌜ b ≡ serverAccepts (now (file .entry)) (found (now (file .entry)) (now (boxes .entry))) (bothIn (now (file .entry)) (now (boxes .entry)) e) h ⌝ }
 {
     if !h.says {
         let n = forms::session_note(file, h.row);
         let p = forms::leaves::prf_of(file, n.m);
         let fits = noted_by_server(h, n, p);
         if fits {
-            let sent = earlier::happened(file, boxes, Wanted::Sent(h.from, p.first), e);
+            let sent = earlier::happened(file, boxes, Wanted::Sent(h.from, p.first));
             if sent {
                 return both_finished(
                     file,

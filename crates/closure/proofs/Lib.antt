@@ -1,3 +1,4 @@
+pub mod Fields
 pub mod Depth
 pub mod Folds
 pub mod Marks

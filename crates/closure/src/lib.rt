@@ -5,8 +5,8 @@
 use trace::AgentNo;
 use trace::Event;
 use trace::EventNo;
-use trace::Row;
 use trace::RowNo;
+use trace::rows::fields_at;
 ghost use mathlib.Core.Bool.{true};
 ghost use mathlib.Core.Path.{_≡_};
 ghost use Prim.Native.Nat.{suc, _+_};
@@ -22,6 +22,17 @@ const KEYS: usize = 128;
 const PUBLIC: usize = 0;
 
 const PRIVATE: usize = 64;
+
+// The kinds of rows that are or hold keys, or open; a kind above 9 reads as a Pair.
+const PUBLIC_KEY: u16 = 4;
+
+const PRIVATE_KEY: u16 = 5;
+
+const SESSION_KEY: u16 = 6;
+
+const CRYPT: u16 = 8;
+
+const PAIR: u16 = 9;
 
 pub fn row_marked(rows: &[u8; 1024], r: u16) -> bool
     ensures { λ b. ⌜ b ≡ rowMarked (now (rows .entry)) r ⌝ }
@@ -43,19 +54,17 @@ fn key_marked(keys: &[u8; 128], at: usize) -> bool
 fn opens_with(file: &[u8], rows: &[u8; 1024], keys: &[u8; 128], k: RowNo) -> bool
     ensures { λ b. ⌜ b ≡ opens (now (file .entry)) (now (rows .entry)) (now (keys .entry)) (k .0) ⌝ }
 {
-    let row = trace::row_at(file, k);
-    match row {
-        Row::PublicKey(a) => key_marked(keys, PRIVATE + (a.0 as usize)),
-        Row::PrivateKey(a) => key_marked(keys, PUBLIC + (a.0 as usize)),
-        Row::SessionKey(_, _, _, _) => row_marked(rows, k.0),
-        Row::Agent(_) => false,
-        Row::Number(_) => false,
-        Row::Nonce(_) => false,
-        Row::Prf(_, _, _) => false,
-        Row::Hash(_) => false,
-        Row::Crypt(_, _) => false,
-        Row::Pair(_, _) => false,
+    let key = fields_at(file, k.0);
+    if key.kind == PUBLIC_KEY {
+        return key_marked(keys, PRIVATE + (key.first as usize));
     }
+    if key.kind == PRIVATE_KEY {
+        return key_marked(keys, PUBLIC + (key.first as usize));
+    }
+    if key.kind == SESSION_KEY {
+        return row_marked(rows, k.0);
+    }
+    false
 }
 
 fn know_key(keys: &mut [u8; 128], at: usize)
@@ -76,34 +85,26 @@ struct Sides {
 fn sides_of(file: &[u8], rows: &[u8; 1024], keys: &[u8; 128], row: u16) -> Sides
     ensures { λ s. ⌜ s ≡ sidesOf (now (file .entry)) (now (rows .entry)) (now (keys .entry)) row (rowAt (now (file .entry)) row) ⌝ }
 {
-    let kind = trace::row_at(file, RowNo(row));
-    match kind {
-        Row::Pair(x, y) => Sides {
-            left: x.0,
-            right: y.0,
-            key: false,
-        },
-        Row::Crypt(k, x) => {
-            let opened = opens_with(file, rows, keys, k);
-            if opened {
-                Sides {
-                    left: x.0,
-                    right: row,
-                    key: false,
-                }
-            } else {
-                no_sides(row, false)
-            }
+    let f = fields_at(file, row);
+    if f.kind == CRYPT {
+        let opened = opens_with(file, rows, keys, RowNo(f.first));
+        if opened {
+            return Sides {
+                left: f.second,
+                right: row,
+                key: false,
+            };
         }
-        Row::PublicKey(_) => no_sides(row, true),
-        Row::PrivateKey(_) => no_sides(row, true),
-        Row::SessionKey(_, _, _, _) => no_sides(row, true),
-        Row::Agent(_) => no_sides(row, false),
-        Row::Number(_) => no_sides(row, false),
-        Row::Nonce(_) => no_sides(row, false),
-        Row::Prf(_, _, _) => no_sides(row, false),
-        Row::Hash(_) => no_sides(row, false),
+        return no_sides(row, false);
     }
+    if PAIR <= f.kind {
+        return Sides {
+            left: f.first,
+            right: f.second,
+            key: false,
+        };
+    }
+    no_sides(row, (PUBLIC_KEY <= f.kind) & (f.kind <= SESSION_KEY))
 }
 
 fn no_sides(row: u16, key: bool) -> Sides
@@ -120,18 +121,13 @@ fn no_sides(row: u16, key: bool) -> Sides
 fn know_row(file: &[u8], keys: &mut [u8; 128], row: u16)
     ensures { λ _. ⌜ now (keys .exit) ≡ knowRow (now (keys .entry)) (rowAt (now (file .entry)) row) ⌝ }
 {
-    let kind = trace::row_at(file, RowNo(row));
-    match kind {
-        Row::PublicKey(a) => know_key(keys, PUBLIC + (a.0 as usize)),
-        Row::PrivateKey(a) => know_key(keys, PRIVATE + (a.0 as usize)),
-        Row::SessionKey(_, _, _, _) => {}
-        Row::Agent(_) => {}
-        Row::Number(_) => {}
-        Row::Nonce(_) => {}
-        Row::Prf(_, _, _) => {}
-        Row::Hash(_) => {}
-        Row::Crypt(_, _) => {}
-        Row::Pair(_, _) => {}
+    let f = fields_at(file, row);
+    if f.kind == PUBLIC_KEY {
+        know_key(keys, PUBLIC + (f.first as usize));
+        return;
+    }
+    if f.kind == PRIVATE_KEY {
+        know_key(keys, PRIVATE + (f.first as usize));
     }
 }
 
@@ -171,23 +167,16 @@ fn learn_below(file: &[u8], rows: &mut [u8; 1024], keys: &mut [u8; 128], row: u1
 fn is_open(file: &[u8], rows: &[u8; 1024], row: u16) -> bool
     ensures { λ b. ⌜ b ≡ opened (now (rows .entry)) (rowAt (now (file .entry)) row) ⌝ }
 {
-    let kind = trace::row_at(file, RowNo(row));
-    match kind {
-        Row::Pair(x, y) => {
-            let left = row_marked(rows, x.0);
-            let right = row_marked(rows, y.0);
-            left & right
-        }
-        Row::Crypt(_, x) => row_marked(rows, x.0),
-        Row::PublicKey(_) => true,
-        Row::PrivateKey(_) => true,
-        Row::SessionKey(_, _, _, _) => true,
-        Row::Agent(_) => true,
-        Row::Number(_) => true,
-        Row::Nonce(_) => true,
-        Row::Prf(_, _, _) => true,
-        Row::Hash(_) => true,
+    let f = fields_at(file, row);
+    if f.kind == CRYPT {
+        return row_marked(rows, f.second);
     }
+    if f.kind < PAIR {
+        return true;
+    }
+    let left = row_marked(rows, f.first);
+    let right = row_marked(rows, f.second);
+    left & right
 }
 
 // Opens a marked row again, with the keys that are known by now.
@@ -312,19 +301,14 @@ fn start_keys(file: &[u8], keys: &mut [u8; 128])
 fn key_known(file: &[u8], keys: &[u8; 128], r: u16) -> bool
     ensures { λ b. ⌜ b ≡ keyKnown (now (keys .entry)) (rowAt (now (file .entry)) r) ⌝ }
 {
-    let kind = trace::row_at(file, RowNo(r));
-    match kind {
-        Row::PublicKey(a) => key_marked(keys, PUBLIC + (a.0 as usize)),
-        Row::PrivateKey(a) => key_marked(keys, PRIVATE + (a.0 as usize)),
-        Row::SessionKey(_, _, _, _) => false,
-        Row::Agent(_) => false,
-        Row::Number(_) => false,
-        Row::Nonce(_) => false,
-        Row::Prf(_, _, _) => false,
-        Row::Hash(_) => false,
-        Row::Crypt(_, _) => false,
-        Row::Pair(_, _) => false,
+    let f = fields_at(file, r);
+    if f.kind == PUBLIC_KEY {
+        return key_marked(keys, PUBLIC + (f.first as usize));
     }
+    if f.kind == PRIVATE_KEY {
+        return key_marked(keys, PRIVATE + (f.first as usize));
+    }
+    false
 }
 
 fn start_row(file: &[u8], rows: &mut [u8; 1024], keys: &[u8; 128], r: u16)

@@ -15,7 +15,7 @@ use lib.Seq.{getD-set-same, getD-set-other}
 use borrow.Author.Tests.{eqb-true, lt-ltb, le-ltb, ltb-true}
 use Rattle.trace.specs.First.{any}
 use Rattle.trace.specs.Rows.{choose}
-use Rattle.trace.proofs.First.{lt-suc, any-none, any-some, bool-cases}
+use Rattle.trace.proofs.First.{lt-suc, any-none, any-some, any-inv, bool-cases}
 use Rattle.trace.proofs.Both.{both, both3, both4, refuted}
 use Rattle.earlier.specs.declared.Heard.{Heard}
 use Rattle.earlier.specs.declared.Wanted.{Wanted}
@@ -337,17 +337,67 @@ fits-box file (Sent to secret) h l t = said-box h to (both (saidTo h to) _ t .0)
 fits-box file (Session from sid a b m) h l t = noted-box h from (both (notedBy h from) _ t .0)
 fits-box file (Under from key) h l t = absurd (omega arith)
 
-found-earlier : (file boxes : List ℕ) (e : ℕ) → Boxed file boxes e → (wanted : Wanted) → found file boxes e wanted ≡ past file e wanted
+-- the boxes of what is said have all that was said
+any-box : (file boxes : List ℕ) (e : ℕ) → Boxed file boxes e → (p : Heard → Bool) → ((h : Heard) → p h ≡ true → h .says ≡ true) →
+    any (λ b. some (λ j. p (heardAt file j)) (chainFrom boxes (getD boxes b 0))) 64 ≡ any (λ j. p (heardAt file j)) e
+any-box file boxes e x p says = go (bool-cases (any (λ b. some (λ j. p (heardAt file j)) (chainFrom boxes (getD boxes b 0))) 64))
+  where
+    in-box : (j : ℕ) → p (heardAt file j) ≡ true → boxOf (heardAt file j) < 64
+    in-box j t =
+        let m : heardAt file j .to % 64 < 64 = mod-lt (heardAt file j .to) (omega arith) in
+        rw (says (heardAt file j) t) m
+
+    unseen : any (λ b. some (λ j. p (heardAt file j)) (chainFrom boxes (getD boxes b 0))) 64 ≡ false → (j : ℕ) → j < e →
+        p (heardAt file j) ≡ true → ⊥
+    unseen f j m t =
+        let k = x .kept j m in
+        let b = boxOf (heardAt file j) in
+        let l : b < 64 = in-box j t in
+        let r = some-reach boxes (λ (i : ℕ). p (heardAt file i)) (x .falls) (getD boxes b 0) (k .0) (omega (arith, x .few, x .low b (omega (arith, l)))) (ap p (k .2) ∙ t) (k .1) in
+        true≢false (sym (any-some (λ (c : ℕ). some (λ i. p (heardAt file i)) (chainFrom boxes (getD boxes c 0))) 64 b l r) ∙ f)
+
+    go : (any (λ b. some (λ j. p (heardAt file j)) (chainFrom boxes (getD boxes b 0))) 64 ≡ true) ⊎
+        (any (λ b. some (λ j. p (heardAt file j)) (chainFrom boxes (getD boxes b 0))) 64 ≡ false) →
+        any (λ b. some (λ j. p (heardAt file j)) (chainFrom boxes (getD boxes b 0))) 64 ≡ any (λ j. p (heardAt file j)) e
+    go (inl t) =
+        let b = any-inv (λ (c : ℕ). some (λ i. p (heardAt file i)) (chainFrom boxes (getD boxes c 0))) 64 t in
+        let h = some-below boxes (λ (i : ℕ). p (heardAt file i)) (getD boxes (b .0) 0) (b .2) in
+        t ∙ sym (any-some (λ (i : ℕ). p (heardAt file i)) e (h .0) (omega (arith, h .1, x .low (b .0) (omega (arith, b .1)))) (h .2))
+    go (inr f) = f ∙ sym (any-none (λ (i : ℕ). p (heardAt file i)) e (λ j m. refuted _ (unseen f j m)))
+
+near : (a : ℕ) {A : Type 0} → 128 ≤ a % 64 → A
+near a l = let m : a % 64 < 64 = mod-lt a (omega arith) in absurd (omega (arith, m))
+
+noted-near : (a : ℕ) {A : Type 0} → 128 ≤ 64 + a % 64 → A
+noted-near a l = let m : a % 64 < 64 = mod-lt a (omega arith) in absurd (omega (arith, m))
+
+-- what has no box of its own is said
+far-said : (file : List ℕ) (wanted : Wanted) (h : Heard) → 128 ≤ boxFor wanted → fitsIn file wanted h ≡ true → h .says ≡ true
+far-said file (HelloFor to agent sid) h l t = near to l
+far-said file (HelloBy from to na sid pa) h l t = near to l
+far-said file (HelloTo to agent na sid pa) h l t = near to l
+far-said file (ReplyWith to nb) h l t = near to l
+far-said file (ReplyTo to nb sid pb) h l t = near to l
+far-said file (ReplyBy from to nb sid pb) h l t = near to l
+far-said file (Cert to agent key) h l t = near to l
+far-said file (Secret from agent secret) h l t = noted-near from l
+far-said file (Sent to secret) h l t = near to l
+far-said file (Session from sid a b m) h l t = noted-near from l
+far-said file (Under from key) h l t = both (h .says) (eqb (h .from) from) (both (h .says && eqb (h .from) from) _ t .0) .0
+
+found-earlier : (file boxes : List ℕ) (e : ℕ) → Boxed file boxes e → (wanted : Wanted) → found file boxes wanted ≡ past file e wanted
 unfolding earlier
 found-earlier file boxes e x wanted = go (decLt (boxFor wanted) 128)
   where
-    go : Dec (boxFor wanted < 128) → found file boxes e wanted ≡ past file e wanted
+    go : Dec (boxFor wanted < 128) → found file boxes wanted ≡ past file e wanted
     go (yes l) =
         rw (lt-ltb (boxFor wanted) 128 l)
         (chain-any file boxes e x (fitsIn file wanted) (boxFor wanted) l (λ h. fits-box file wanted h l))
-    go (no l) = rw (le-ltb (boxFor wanted) 128 (omega arith)) refl
+    go (no l) =
+        rw (le-ltb (boxFor wanted) 128 (omega arith))
+        (any-box file boxes e x (fitsIn file wanted) (λ h. far-said file wanted h (omega arith)))
 
-pub found-past : (file boxes : List ℕ) (e : ℕ) → Boxed file boxes e → found file boxes e ≡ past file e
+pub found-past : (file boxes : List ℕ) (e : ℕ) → Boxed file boxes e → found file boxes ≡ past file e
 found-past file boxes e x = λ i wanted. found-earlier file boxes e x wanted i
 
 -- what `keep` leaves, by what it found

@@ -6,11 +6,12 @@ use mathlib.Core.List.{List, [], _∷_}
 use mathlib.Core.Path.{_≡_}
 use lib.Dec.{ltb}
 use lib.ListN.{length, getD, set}
+use Rattle.trace.specs.First.{any}
 use Rattle.trace.specs.Rows.{choose}
 use Rattle.earlier.specs.declared.Heard.{Heard}
 use Rattle.earlier.specs.declared.Wanted.{Wanted}
 use Rattle.earlier.specs.declared.Wanted.the-variants.{HelloFor, HelloBy, HelloTo, ReplyWith, ReplyTo, ReplyBy, Cert, Secret, Sent, Session, Under}
-use Rattle.earlier.specs.Earlier.{heardAt, sameHeard, fitsIn, earlier}
+use Rattle.earlier.specs.Earlier.{heardAt, sameHeard, fitsIn}
 
 abbrev pub boxOf : Heard → ℕ
 boxOf h = choose (h .says) (h .to % 64) (64 + h .from % 64)
@@ -52,12 +53,12 @@ unfoldable pub some : (ℕ → Bool) → List ℕ → Bool
 some p [] = false
 some p (j ∷ js) = p j || some p js
 
--- what is wanted is in its box, or before e
-abbrev pub found : (file boxes : List ℕ) → ℕ → Wanted → Bool
-found file boxes e wanted =
+-- what is wanted is in its box; what lies under a key can be in any box of what is said
+abbrev pub found : (file boxes : List ℕ) → Wanted → Bool
+found file boxes wanted =
     choose (ltb (boxFor wanted) 128)
     (some (λ j. fitsIn file wanted (heardAt file j)) (chainFrom boxes (getD boxes (boxFor wanted) 0)))
-    (earlier file wanted e)
+    (any (λ b. some (λ j. fitsIn file wanted (heardAt file j)) (chainFrom boxes (getD boxes b 0))) 64)
 
 -- equal events have one slot, which leads to the last of them that was kept; others may share it
 abbrev pub slotOf : Heard → ℕ

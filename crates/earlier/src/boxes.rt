@@ -11,6 +11,8 @@ use super::hear;
 use super::same_heard;
 ghost use mathlib.Core.Path.{_≡_};
 ghost use Prim.Native.Nat.{_<_};
+ghost use lib.ListN.{getD};
+ghost use Rattle.trace.specs.First.{any};
 ghost use Rattle.earlier.specs.Earlier.{heardAt, fitsIn};
 ghost use Rattle.earlier.specs.Boxes.{boxOf, boxFor, latestTo, next, chainFrom, some, slotOf, isAgain, keptIn};
 
@@ -87,6 +89,22 @@ pub fn search(file: &[u8], boxes: &[u16; 1664], wanted: Wanted, head: u16) -> bo
             return true;
         }
         link = next(boxes, link);
+    }
+    false
+}
+
+// The same in the boxes of all receivers.
+pub fn search_all(file: &[u8], boxes: &[u16; 1664], wanted: Wanted) -> bool
+    ensures { λ b. ⌜ b ≡ any (λ b. some (λ j. fitsIn (now (file .entry)) wanted (heardAt (now (file .entry)) j))
+        (chainFrom (now (boxes .entry)) (getD (now (boxes .entry)) b 0))) 64 ⌝ }
+{
+    let mut b: u16 = 0;
+    while b < AGENTS {
+        let found = search(file, boxes, wanted, boxes[b as usize]);
+        if found {
+            return true;
+        }
+        b += 1;
     }
     false
 }

@@ -2,7 +2,7 @@
 pub mod boxes;
 
 ghost use mathlib.Core.Path.{_≡_};
-ghost use Rattle.earlier.specs.Earlier.{heardAt, saidTo, saidBy, notedBy, isHello, isHelloFor, isReply, isReplyWith, sameHeard, fitsIn, earlier};
+ghost use Rattle.earlier.specs.Earlier.{heardAt, saidTo, saidBy, notedBy, isHello, isHelloFor, isReply, isReplyWith, sameHeard, fitsIn};
 ghost use Rattle.earlier.specs.Boxes.{found};
 ghost use Rattle.earlier.specs.declared.Wanted.the-variants.{HelloFor, HelloBy, HelloTo, ReplyWith, ReplyTo, ReplyBy, Cert, Secret, Sent, Session, Under};
 
@@ -291,29 +291,14 @@ fn fits(file: &[u8], wanted: Wanted, e: u16) -> bool
     }
 }
 
-// Whether some event before e is what is wanted, in whatever box.
-fn look_back(file: &[u8], wanted: Wanted, e: u16) -> bool
-    ensures { λ b. ⌜ b ≡ earlier (now (file .entry)) wanted e ⌝ }
-{
-    let mut j = e;
-    while 0 < j {
-        j -= 1;
-        let found = fits(file, wanted, j);
-        if found {
-            return true;
-        }
-    }
-    false
-}
-
-// Whether some event before e is what is wanted. The message is read only where sender and receiver fit.
-pub fn happened(file: &[u8], boxes: &[u16; 1664], wanted: Wanted, e: u16) -> bool
-    ensures { λ b. ⌜ b ≡ found (now (file .entry)) (now (boxes .entry)) e wanted ⌝ }
+// Whether some earlier event is what is wanted. The message is read only where sender and receiver fit.
+pub fn happened(file: &[u8], boxes: &[u16; 1664], wanted: Wanted) -> bool
+    ensures { λ b. ⌜ b ≡ found (now (file .entry)) (now (boxes .entry)) wanted ⌝ }
 {
     let at = boxes::box_for(wanted) as usize;
     if at < boxes::BOXES {
         boxes::search(file, boxes, wanted, boxes[at])
     } else {
-        look_back(file, wanted, e)
+        boxes::search_all(file, boxes, wanted)
     }
 }

@@ -31,8 +31,8 @@ fn with_prf(is: bool, m: Sealed, p: Three) -> bool
 }
 
 // Rule 8: ClientFinished.
-pub fn client_finished(file: &[u8], boxes: &[u16; 1664], e: u16, h: Heard) -> bool
-    ensures { λ b. ⌜ b ≡ clientFinished (now (file .entry)) (found (now (file .entry)) (now (boxes .entry)) e) h ⌝ }
+pub fn client_finished(file: &[u8], boxes: &[u16; 1664], h: Heard) -> bool
+    ensures { λ b. ⌜ b ≡ clientFinished (now (file .entry)) (found (now (file .entry)) (now (boxes .entry))) h ⌝ }
 {
     if h.says {
         let own = forms::under_key(file, h.row, false);
@@ -46,21 +46,18 @@ pub fn client_finished(file: &[u8], boxes: &[u16; 1664], e: u16, h: Heard) -> bo
                     file,
                     boxes,
                     Wanted::HelloBy(h.from, h.to, m.na, m.sid, m.pa),
-                    e,
                 );
                 if hello {
                     let reply = earlier::happened(
                         file,
                         boxes,
                         Wanted::ReplyTo(h.from, m.nb, m.sid, m.pb),
-                        e,
                     );
                     if reply {
                         return earlier::happened(
                             file,
                             boxes,
                             Wanted::Secret(h.from, h.to, p.first),
-                            e,
                         );
                     }
                 }
@@ -71,8 +68,8 @@ pub fn client_finished(file: &[u8], boxes: &[u16; 1664], e: u16, h: Heard) -> bo
 }
 
 // Rule 9: ServerFinished.
-pub fn server_finished(file: &[u8], boxes: &[u16; 1664], e: u16, h: Heard) -> bool
-    ensures { λ b. ⌜ b ≡ serverFinished (now (file .entry)) (found (now (file .entry)) (now (boxes .entry)) e) h ⌝ }
+pub fn server_finished(file: &[u8], boxes: &[u16; 1664], h: Heard) -> bool
+    ensures { λ b. ⌜ b ≡ serverFinished (now (file .entry)) (found (now (file .entry)) (now (boxes .entry))) h ⌝ }
 {
     if h.says {
         let own = forms::under_key(file, h.row, true);
@@ -86,17 +83,15 @@ pub fn server_finished(file: &[u8], boxes: &[u16; 1664], e: u16, h: Heard) -> bo
                     file,
                     boxes,
                     Wanted::HelloTo(h.from, h.to, m.na, m.sid, m.pa),
-                    e,
                 );
                 if hello {
                     let reply = earlier::happened(
                         file,
                         boxes,
                         Wanted::ReplyBy(h.from, h.to, m.nb, m.sid, m.pb),
-                        e,
                     );
                     if reply {
-                        return earlier::happened(file, boxes, Wanted::Sent(h.from, p.first), e);
+                        return earlier::happened(file, boxes, Wanted::Sent(h.from, p.first));
                     }
                 }
             }
@@ -106,8 +101,8 @@ pub fn server_finished(file: &[u8], boxes: &[u16; 1664], e: u16, h: Heard) -> bo
 }
 
 // Rule 12: ClientResume.
-pub fn client_resume(file: &[u8], boxes: &[u16; 1664], e: u16, h: Heard) -> bool
-    ensures { λ b. ⌜ b ≡ clientResume (now (file .entry)) (found (now (file .entry)) (now (boxes .entry)) e) h ⌝ }
+pub fn client_resume(file: &[u8], boxes: &[u16; 1664], h: Heard) -> bool
+    ensures { λ b. ⌜ b ≡ clientResume (now (file .entry)) (found (now (file .entry)) (now (boxes .entry))) h ⌝ }
 {
     if h.says {
         let own = forms::under_key(file, h.row, false);
@@ -119,21 +114,18 @@ pub fn client_resume(file: &[u8], boxes: &[u16; 1664], e: u16, h: Heard) -> bool
                     file,
                     boxes,
                     Wanted::HelloBy(h.from, h.to, m.na, m.sid, m.pa),
-                    e,
                 );
                 if hello {
                     let reply = earlier::happened(
                         file,
                         boxes,
                         Wanted::ReplyTo(h.from, m.nb, m.sid, m.pb),
-                        e,
                     );
                     if reply {
                         return earlier::happened(
                             file,
                             boxes,
                             Wanted::Session(h.from, m.sid, h.from, h.to, m.m),
-                            e,
                         );
                     }
                 }
@@ -144,8 +136,8 @@ pub fn client_resume(file: &[u8], boxes: &[u16; 1664], e: u16, h: Heard) -> bool
 }
 
 // Rule 13: ServerResume.
-pub fn server_resume(file: &[u8], boxes: &[u16; 1664], e: u16, h: Heard) -> bool
-    ensures { λ b. ⌜ b ≡ serverResume (now (file .entry)) (found (now (file .entry)) (now (boxes .entry)) e) h ⌝ }
+pub fn server_resume(file: &[u8], boxes: &[u16; 1664], h: Heard) -> bool
+    ensures { λ b. ⌜ b ≡ serverResume (now (file .entry)) (found (now (file .entry)) (now (boxes .entry))) h ⌝ }
 {
     if h.says {
         let own = forms::under_key(file, h.row, true);
@@ -157,21 +149,18 @@ pub fn server_resume(file: &[u8], boxes: &[u16; 1664], e: u16, h: Heard) -> bool
                     file,
                     boxes,
                     Wanted::HelloTo(h.from, h.to, m.na, m.sid, m.pa),
-                    e,
                 );
                 if hello {
                     let reply = earlier::happened(
                         file,
                         boxes,
                         Wanted::ReplyBy(h.from, h.to, m.nb, m.sid, m.pb),
-                        e,
                     );
                     if reply {
                         return earlier::happened(
                             file,
                             boxes,
                             Wanted::Session(h.from, m.sid, h.to, h.from, m.m),
-                            e,
                         );
                     }
                 }

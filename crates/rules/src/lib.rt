@@ -63,14 +63,14 @@ pub fn client_hello(file: &[u8], used: &[u8; 1024], h: Heard) -> bool
 }
 
 // Rule 4: SH with a fresh nonce, to the agent of a CH.
-pub fn server_hello(file: &[u8], boxes: &[u16; 1664], used: &[u8; 1024], e: u16, h: Heard) -> bool
-    ensures { λ b. ⌜ b ≡ tests.serverHello (now (file .entry)) (now (used .entry)) (found (now (file .entry)) (now (boxes .entry)) e) h ⌝ }
+pub fn server_hello(file: &[u8], boxes: &[u16; 1664], used: &[u8; 1024], h: Heard) -> bool
+    ensures { λ b. ⌜ b ≡ tests.serverHello (now (file .entry)) (now (used .entry)) (found (now (file .entry)) (now (boxes .entry))) h ⌝ }
 {
     if h.says {
         let m = forms::server_hello(file, h.row);
         let fresh = is_fresh(file, used, m.nb);
         if (m.is) & fresh {
-            earlier::happened(file, boxes, Wanted::HelloFor(h.from, h.to, m.sid), e)
+            earlier::happened(file, boxes, Wanted::HelloFor(h.from, h.to, m.sid))
         } else {
             false
         }
@@ -97,11 +97,10 @@ pub fn key_exchange(
     file: &[u8],
     boxes: &[u16; 1664],
     used: &[u8; 1024],
-    e: u16,
     note: Heard,
     said: Heard,
 ) -> bool
-    ensures { λ b. ⌜ b ≡ tests.keyExchange (now (file .entry)) (now (used .entry)) (found (now (file .entry)) (now (boxes .entry)) e) note said ⌝ }
+    ensures { λ b. ⌜ b ≡ tests.keyExchange (now (file .entry)) (now (used .entry)) (found (now (file .entry)) (now (boxes .entry))) note said ⌝ }
 {
     if note.says {
         false
@@ -111,7 +110,7 @@ pub fn key_exchange(
         let sent = earlier::said_by(said, note.from, k.agent);
         let c = forms::leaves::crypt_of(file, said.row);
         if (k.is) & fresh & sent & (c.is) & (c.second == k.secret) {
-            earlier::happened(file, boxes, Wanted::Cert(note.from, k.agent, c.first), e)
+            earlier::happened(file, boxes, Wanted::Cert(note.from, k.agent, c.first))
         } else {
             false
         }
@@ -119,15 +118,15 @@ pub fn key_exchange(
 }
 
 // Rule 7: the nonce of an SH and a secret of one's own, signed.
-pub fn cert_verify(file: &[u8], boxes: &[u16; 1664], e: u16, h: Heard) -> bool
-    ensures { λ b. ⌜ b ≡ tests.certVerify (now (file .entry)) (found (now (file .entry)) (now (boxes .entry)) e) h ⌝ }
+pub fn cert_verify(file: &[u8], boxes: &[u16; 1664], h: Heard) -> bool
+    ensures { λ b. ⌜ b ≡ tests.certVerify (now (file .entry)) (found (now (file .entry)) (now (boxes .entry))) h ⌝ }
 {
     if h.says {
         let m = forms::cert_verify(file, h.row);
         if (m.is) & (m.signer == h.from) & (m.agent == h.to) {
-            let replied = earlier::happened(file, boxes, Wanted::ReplyWith(h.from, m.nb), e);
+            let replied = earlier::happened(file, boxes, Wanted::ReplyWith(h.from, m.nb));
             if replied {
-                earlier::happened(file, boxes, Wanted::Secret(h.from, h.to, m.secret), e)
+                earlier::happened(file, boxes, Wanted::Secret(h.from, h.to, m.secret))
             } else {
                 false
             }
@@ -140,13 +139,13 @@ pub fn cert_verify(file: &[u8], boxes: &[u16; 1664], e: u16, h: Heard) -> bool
 }
 
 // Rule 14: a session key that one spoke under, lost to the spy.
-pub fn oops(file: &[u8], boxes: &[u16; 1664], e: u16, h: Heard) -> bool
-    ensures { λ b. ⌜ b ≡ tests.oops (now (file .entry)) (found (now (file .entry)) (now (boxes .entry)) e) h ⌝ }
+pub fn oops(file: &[u8], boxes: &[u16; 1664], h: Heard) -> bool
+    ensures { λ b. ⌜ b ≡ tests.oops (now (file .entry)) (found (now (file .entry)) (now (boxes .entry))) h ⌝ }
 {
     if (h.says) & (h.to == SPY) {
         let k = forms::leaves::session_of(file, h.row);
         if k.is {
-            earlier::happened(file, boxes, Wanted::Under(h.from, h.row), e)
+            earlier::happened(file, boxes, Wanted::Under(h.from, h.row))
         } else {
             false
         }

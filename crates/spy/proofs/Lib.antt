@@ -1,3 +1,4 @@
+pub mod Fields
 pub mod Sweep
 pub mod Makes
 pub mod Knows

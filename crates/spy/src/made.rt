@@ -1,7 +1,7 @@
 // What the spy can make: one sweep from the lowest row up, over the rows that it knows.
 use closure::row_marked;
-use trace::Row;
 use trace::RowNo;
+use trace::rows::fields_at;
 ghost use mathlib.Core.Path.{_≡_};
 ghost use lib.ListN.{set};
 ghost use Rattle.trace.specs.Rows.{rowAt};
@@ -10,6 +10,13 @@ ghost use Rattle.spy.specs.Made.{made, makes, markOf, writeMarks};
 const ANALYSED: u8 = 2;
 
 const MADE: u8 = 1;
+
+// The kinds by what making takes: nothing below a Nonce, from a Hash on the parts, and in between it cannot be made.
+const NONCE: u16 = 2;
+
+const HASH: u16 = 7;
+
+const CRYPT: u16 = 8;
 
 // Whether a lower row can be made, by its mark.
 fn row_made(marks: &[u8], x: RowNo) -> bool
@@ -27,27 +34,21 @@ fn row_made(marks: &[u8], x: RowNo) -> bool
 fn can_make(file: &[u8], rows: &[u8; 1024], marks: &[u8], r: u16) -> bool
     ensures { λ b. ⌜ b ≡ makes (now (rows .entry)) (now (marks .entry)) (rowAt (now (file .entry)) r) ⌝ }
 {
-    let kind = trace::row_at(file, RowNo(r));
-    match kind {
-        Row::Agent(_) => true,
-        Row::Number(_) => true,
-        Row::Hash(x) => row_made(marks, x),
-        Row::Crypt(k, x) => {
-            let key = row_marked(rows, k.0);
-            let body = row_made(marks, x);
-            key & body
-        }
-        Row::Pair(x, y) => {
-            let left = row_made(marks, x);
-            let right = row_made(marks, y);
-            left & right
-        }
-        Row::Nonce(_) => false,
-        Row::Prf(_, _, _) => false,
-        Row::PublicKey(_) => false,
-        Row::PrivateKey(_) => false,
-        Row::SessionKey(_, _, _, _) => false,
+    let f = fields_at(file, r);
+    if f.kind < HASH {
+        return f.kind < NONCE;
     }
+    if f.kind == HASH {
+        return row_made(marks, RowNo(f.first));
+    }
+    if f.kind == CRYPT {
+        let key = row_marked(rows, f.first);
+        let body = row_made(marks, RowNo(f.second));
+        return key & body;
+    }
+    let left = row_made(marks, RowNo(f.first));
+    let right = row_made(marks, RowNo(f.second));
+    left & right
 }
 
 fn mark_of(file: &[u8], rows: &[u8; 1024], marks: &[u8], r: u16) -> u8

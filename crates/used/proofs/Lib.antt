@@ -1,3 +1,4 @@
+pub mod Fields
 pub mod Deep
 pub mod Grown
 pub mod Exactly

@@ -4,15 +4,19 @@
 // of a marked row are marked.
 use trace::Event;
 use trace::EventNo;
-use trace::Row;
-use trace::RowNo;
+use trace::rows::fields_at;
 ghost use mathlib.Core.Path.{_≡_};
 ghost use Prim.Native.Nat.{suc};
 ghost use Rattle.trace.specs.Rows.{rowAt};
 ghost use Rattle.trace.specs.Events.{eventAt};
-ghost use Rattle.used.specs.Marking.{noHalves, partsOf, usedBelow, useRow, useEvent};
+ghost use Rattle.used.specs.Marking.{partsOf, usedBelow, useRow, useEvent};
 
 const ROWS: u16 = 1024;
+
+// The kinds that have parts; a kind above 9 reads as a Pair.
+const CRYPT: u16 = 8;
+
+const PAIR: u16 = 9;
 
 // What a row goes into: a side that is not below the row is none.
 struct Halves {
@@ -20,36 +24,25 @@ struct Halves {
     right: u16,
 }
 
-fn no_halves(row: u16) -> Halves
-    ensures { λ h. ⌜ h ≡ noHalves row ⌝ }
-{
-    Halves {
-        left: row,
-        right: row,
-    }
-}
-
 fn halves_of(file: &[u8], row: u16) -> Halves
     ensures { λ h. ⌜ h ≡ partsOf row (rowAt (now (file .entry)) row) ⌝ }
 {
-    let kind = trace::row_at(file, RowNo(row));
-    match kind {
-        Row::Pair(x, y) => Halves {
-            left: x.0,
-            right: y.0,
-        },
-        Row::Crypt(_, x) => Halves {
-            left: x.0,
+    let f = fields_at(file, row);
+    if f.kind == CRYPT {
+        return Halves {
+            left: f.second,
             right: row,
-        },
-        Row::PublicKey(_) => no_halves(row),
-        Row::PrivateKey(_) => no_halves(row),
-        Row::SessionKey(_, _, _, _) => no_halves(row),
-        Row::Agent(_) => no_halves(row),
-        Row::Number(_) => no_halves(row),
-        Row::Nonce(_) => no_halves(row),
-        Row::Prf(_, _, _) => no_halves(row),
-        Row::Hash(_) => no_halves(row),
+        };
+    }
+    if PAIR <= f.kind {
+        return Halves {
+            left: f.first,
+            right: f.second,
+        };
+    }
+    Halves {
+        left: row,
+        right: row,
     }
 }
 

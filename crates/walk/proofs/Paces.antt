@@ -196,14 +196,14 @@ unfolding cleared
 cleared-more i bytes bs bs′ e q = rw (add-one, ← e) q
 
 module _ (file : List ℕ) (N i : ℕ) {us rs ks bs : List ℕ} (b : Before file i us rs ks bs) {h : Heard} (eh : h ≡ heardAt file i) {k : ℕ}
-    (ek : k ≡ lowestRule file us rs (found file bs i) (bothIn file bs i) h) where
-  finds : found file bs i ≡ past file i
+    (ek : k ≡ lowestRule file us rs (found file bs) (bothIn file bs i) h) where
+  finds : found file bs ≡ past file i
   finds = found-past file bs i (b .kept)
 
   rule-is : k ≡ ruleOf file i
   rule-is = ek ∙ (λ j. lowestRule file (b .uses j) (b .sees j) (finds j) (both-past file bs i (b .kept) j) (eh j))
 
-  exchange-is : {g : Heard} {n : ℕ} {x : Bool} → n ≡ suc i → g ≡ heardAt file n → x ≡ keyExchange file us (found file bs i) h g → x ≡ exchangeOf file i
+  exchange-is : {g : Heard} {n : ℕ} {x : Bool} → n ≡ suc i → g ≡ heardAt file n → x ≡ keyExchange file us (found file bs) h g → x ≡ exchangeOf file i
   exchange-is {g} {n} {x} en eg ex =
       let q : g ≡ heardAt file (suc i) = eg ∙ ap (heardAt file) en in
       ex ∙ (λ j. keyExchange file (b .uses j) (finds j) (eh j) (q j))
@@ -220,7 +220,7 @@ module _ (file : List ℕ) (N i : ℕ) {us rs ks bs : List ℕ} (b : Before file
       (t .0, (t .1, subst (λ (m : ℕ). Before file m us′ rs′ ks′ bs′) (sym e) a))
 
   pub goes-two : (bytes : List ℕ) {g : Heard} {n : ℕ} {x : Bool} {mid bytes′ us′ rs′ ks′ bs′ : List ℕ} → k ≤ 0 → n ≡ i + 1 → n < N →
-      g ≡ heardAt file n → x ≡ keyExchange file us (found file bs i) h g → x ≡ true → mid ≡ set bytes i 6 → bytes′ ≡ set mid n 6 →
+      g ≡ heardAt file n → x ≡ keyExchange file us (found file bs) h g → x ≡ true → mid ≡ set bytes i 6 → bytes′ ≡ set mid n 6 →
       Before file (suc n) us′ rs′ ks′ bs′ → Goes 2 bytes bytes′ us′ rs′ ks′ bs′
   goes-two bytes {g} {n} {x} {mid} {bytes′} {us′} {rs′} {ks′} {bs′} l en s eg ex t p q a =
       let f : n ≡ suc i = omega arith in
@@ -240,7 +240,7 @@ module _ (file : List ℕ) (N i : ℕ) {us rs ks bs : List ℕ} (b : Before file
       (r .0, (r .1, stays))
 
   pub goes-none : (bytes : List ℕ) {g : Heard} {n : ℕ} {x : Bool} → k ≤ 0 → n ≡ i + 1 → n < N →
-      g ≡ heardAt file n → x ≡ keyExchange file us (found file bs i) h g → x ≡ false → Goes 0 bytes bytes us rs ks bs
+      g ≡ heardAt file n → x ≡ keyExchange file us (found file bs) h g → x ≡ false → Goes 0 bytes bytes us rs ks bs
   goes-none bytes {g} {n} {x} l en s eg ex t =
       let f : n ≡ suc i = omega arith in
       let r = told-none (ruleOf file) (exchangeOf file) N i k bytes rule-is l (omega arith) (sym (exchange-is f eg ex) ∙ t) in

@@ -8,7 +8,7 @@ ghost use Rattle.walk.specs.Lowest.{lowestNoted, lowestCrypt, lowestPlai
 
 // A note: 2, 10 or 11.
 fn lowest_noted(file: &[u8], boxes: &[u16; 1664], known: &[u8; 1024], e: u16, h: Heard) -> u8
-    ensures { λ k. ⌜ k ≡ lowestNoted (now (file .entry)) (now (known .entry)) (found (now (file .entry)) (now (boxes .entry)) e) (bothIn (now (file .entry)) (now (boxes .entry)) e) h ⌝ }
+    ensures { λ k. ⌜ k ≡ lowestNoted (now (file .entry)) (now (known .entry)) (found (now (file .entry)) (now (boxes .entry))) (bothIn (now (file .entry)) (now (boxes .entry)) e) h ⌝ }
 {
     let two = rules::spy_keys(file, known, h);
     if two {
@@ -23,46 +23,46 @@ fn lowest_noted(file: &[u8], boxes: &[u16; 1664], known: &[u8; 1024], e: u16, h:
 }
 
 // A Says of a Crypt: 5, 7, 8, 9, 12 or 13.
-fn lowest_crypt(file: &[u8], boxes: &[u16; 1664], e: u16, h: Heard) -> u8
-    ensures { λ k. ⌜ k ≡ lowestCrypt (now (file .entry)) (found (now (file .entry)) (now (boxes .entry)) e) h ⌝ }
+fn lowest_crypt(file: &[u8], boxes: &[u16; 1664], h: Heard) -> u8
+    ensures { λ k. ⌜ k ≡ lowestCrypt (now (file .entry)) (found (now (file .entry)) (now (boxes .entry))) h ⌝ }
 {
     let five = rules::certificate(file, h);
     if five {
         return 5;
     }
-    let seven = rules::cert_verify(file, boxes, e, h);
+    let seven = rules::cert_verify(file, boxes, h);
     if seven {
         return 7;
     }
-    let eight = finished::client_finished(file, boxes, e, h);
+    let eight = finished::client_finished(file, boxes, h);
     if eight {
         return 8;
     }
-    let nine = finished::server_finished(file, boxes, e, h);
+    let nine = finished::server_finished(file, boxes, h);
     if nine {
         return 9;
     }
-    let twelve = finished::client_resume(file, boxes, e, h);
+    let twelve = finished::client_resume(file, boxes, h);
     if twelve {
         return 12;
     }
-    let thirteen = finished::server_resume(file, boxes, e, h);
+    let thirteen = finished::server_resume(file, boxes, h);
     if thirteen { 13 } else { 0 }
 }
 
 // A Says of another message: 3, 4 or 14.
-fn lowest_plain(file: &[u8], boxes: &[u16; 1664], used: &[u8; 1024], e: u16, h: Heard) -> u8
-    ensures { λ k. ⌜ k ≡ lowestPlain (now (file .entry)) (now (used .entry)) (found (now (file .entry)) (now (boxes .entry)) e) h ⌝ }
+fn lowest_plain(file: &[u8], boxes: &[u16; 1664], used: &[u8; 1024], h: Heard) -> u8
+    ensures { λ k. ⌜ k ≡ lowestPlain (now (file .entry)) (now (used .entry)) (found (now (file .entry)) (now (boxes .entry))) h ⌝ }
 {
     let three = rules::client_hello(file, used, h);
     if three {
         return 3;
     }
-    let four = rules::server_hello(file, boxes, used, e, h);
+    let four = rules::server_hello(file, boxes, used, h);
     if four {
         return 4;
     }
-    let fourteen = rules::oops(file, boxes, e, h);
+    let fourteen = rules::oops(file, boxes, h);
     if fourteen { 14 } else { 0 }
 }
 
@@ -73,11 +73,10 @@ fn lowest_said(
     used: &[u8; 1024],
     known: &[u8; 1024],
     made: &mut [u8; 1024],
-    e: u16,
     h: Heard,
 ) -> u8
     requires { ⌜ SoundMarks (now file) (now known) (now made) ⌝ }
-    ensures { λ k. ⌜ k ≡ lowestSaid (now (file .entry)) (now (used .entry)) (now (known .entry)) (found (now (file .entry)) (now (boxes .entry)) e) h ⌝ }
+    ensures { λ k. ⌜ k ≡ lowestSaid (now (file .entry)) (now (used .entry)) (now (known .entry)) (found (now (file .entry)) (now (boxes .entry))) h ⌝ }
     ensures { λ _. ⌜ SoundMarks (now (file .entry)) (now (known .entry)) (now (made .exit)) ⌝ }
 {
     let sealed = forms::leaves::crypt_of(file, h.row).is;
@@ -86,9 +85,9 @@ fn lowest_said(
         return 1;
     }
     if sealed {
-        lowest_crypt(file, boxes, e, h)
+        lowest_crypt(file, boxes, h)
     } else {
-        lowest_plain(file, boxes, used, e, h)
+        lowest_plain(file, boxes, used, h)
     }
 }
 
@@ -102,12 +101,12 @@ pub fn lowest_rule(
     h: Heard,
 ) -> u8
     requires { ⌜ SoundMarks (now file) (now known) (now made) ⌝ }
-    ensures { λ k. ⌜ k ≡ lowestRule (now (file .entry)) (now (used .entry)) (now (known .entry)) (found (now (file .entry)) (now (boxes .entry)) e)
+    ensures { λ k. ⌜ k ≡ lowestRule (now (file .entry)) (now (used .entry)) (now (known .entry)) (found (now (file .entry)) (now (boxes .entry)))
         (bothIn (now (file .entry)) (now (boxes .entry)) e) h ⌝ }
     ensures { λ _. ⌜ SoundMarks (now (file .entry)) (now (known .entry)) (now (made .exit)) ⌝ }
 {
     if h.says {
-        lowest_said(file, boxes, used, known, made, e, h)
+        lowest_said(file, boxes, used, known, made, h)
     } else {
         lowest_noted(file, boxes, known, e, h)
     }

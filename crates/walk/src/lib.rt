@@ -88,7 +88,7 @@ fn advance(
     }
     let next = i + 1;
     let said = earlier::hear(file, next);
-    let six = rules::key_exchange(file, boxes, used, i, note, said);
+    let six = rules::key_exchange(file, boxes, used, note, said);
     if six {
         put(rules, i as usize, SIX);
         put(rules, next as usize, SIX);

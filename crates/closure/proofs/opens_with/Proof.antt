@@ -1,41 +1,30 @@
--- `closure::opens_with` meets its contract: in each arm the kind is known.
+-- `closure::opens_with` meets its contract: the tests say which kind it is.
 -- Assumes nothing.
-use mathlib.Core.Path.{refl, _∙_}
-use Rattle.closure.proofs.Marks.{public-marked}
-use denote.Ref.{now}
+use mathlib.Core.Path.{_∙_}
+use Rattle.closure.proofs.Fields.{opens-public, opens-private, opens-session, opens-none}
 use borrow.Author.Needs.{needs}
 use Rattle.closure.proofs.opens_with.Statement.{statement}
 use Rattle.closure.proofs.opens_with.Tie as tie
 
 returns : tie.Need-returns
-returns c = rw (← c .before .before .before .before .before .row-at .ensures, c .before .before .before .row .given .1) (c .key-marked .ensures)
+returns c =
+    let f = c .before .before .before .before .fields-at in
+    rw (← f .ensures) (c .key-marked .ensures ∙ opens-public _ _ (f .result) _ (c .before .before .if1 .taken))
 
 returns-2 : tie.Need-returns-2
-returns-2 c = rw (← c .before .before .before .before .before .row-at .ensures, c .before .before .before .row2 .given .1) (c .key-marked2 .ensures ∙ public-marked (now (c .before .before .before .before .before .before .before .args .keys)) (c .before .before .before .row2 .given .0 .0 .0))
+returns-2 c =
+    let f = c .before .before .before .before .before .before .fields-at in
+    rw (← f .ensures) (c .key-marked2 .ensures ∙ opens-private _ _ (f .result) _ (c .before .before .if2 .taken))
 
 returns-3 : tie.Need-returns-3
-returns-3 c = rw (← c .before .before .before .row-at .ensures, c .before .enum-told .given .1) (c .row-marked .ensures)
+returns-3 c =
+    let f = c .before .before .before .before .before .before .before .fields-at in
+    rw (← f .ensures) (c .row-marked .ensures ∙ opens-session _ _ (f .result) _ (c .before .if3 .taken))
 
 returns-4 : tie.Need-returns-4
-returns-4 c = rw (← c .before .before .row-at .ensures, c .enum-told2 .given .1) (refl)
-
-returns-5 : tie.Need-returns-5
-returns-5 c = rw (← c .before .before .row-at .ensures, c .enum-told3 .given .1) (refl)
-
-returns-6 : tie.Need-returns-6
-returns-6 c = rw (← c .before .before .row-at .ensures, c .enum-told4 .given .1) (refl)
-
-returns-7 : tie.Need-returns-7
-returns-7 c = rw (← c .before .before .row-at .ensures, c .enum-told5 .given .1) (refl)
-
-returns-8 : tie.Need-returns-8
-returns-8 c = rw (← c .before .before .row-at .ensures, c .enum-told6 .given .1) (refl)
-
-returns-9 : tie.Need-returns-9
-returns-9 c = rw (← c .before .before .row-at .ensures, c .enum-told7 .given .1) (refl)
-
-returns-10 : tie.Need-returns-10
-returns-10 c = rw (← c .before .before .row-at .ensures, c .enum-told8 .given .1) (refl)
+returns-4 c =
+    let f = c .before .before .before .before .before .before .fields-at in
+    rw (← f .ensures) (opens-none _ _ (f .result) _ (c .before .before .before .before .if1 .left) (c .before .before .if2 .left) (c .if3 .left))
 
 pub opens-with-spec : {M : Type 1} → statement M
 opens-with-spec =
@@ -44,28 +33,12 @@ opens-with-spec =
     (λ c κs. search needs)
     (λ c. search needs)
     (λ c. search needs)
-    (λ c. search needs)
     (λ c κs. search needs)
-    (λ c. search needs)
-    (λ c. search needs)
-    (λ c. search needs)
-    (λ c κs. search needs)
-    (λ c. search needs)
-    (λ c κs. search needs)
-    (λ c. search needs)
-    (λ c. search needs)
-    (λ c. search needs)
-    (λ c. search needs)
-    (λ c. search needs)
-    (λ c. search needs)
-    (λ c. search needs)
     returns
+    (λ c. search needs)
+    (λ c. search needs)
+    (λ c κs. search needs)
     returns-2
+    (λ c κs. search needs)
     returns-3
-    returns-4
-    returns-5
-    returns-6
-    returns-7
-    returns-8
-    returns-9
-    returns-10)
+    returns-4)

@@ -1,4 +1,4 @@
--- `earlier::happened` meets its contract: what is wanted has a box, or is looked for everywhere.
+-- `earlier::happened` meets its contract: what is wanted has a box, or is looked for in all.
 -- Assumes nothing.
 use borrow.Author.Tests.{lt-ltb, le-ltb}
 use borrow.Author.Needs.{needs}
@@ -10,7 +10,7 @@ returns c =
     rw (← c .before .before .before .box-for .ensures, lt-ltb _ 128 (c .before .before .if1 .taken)) (c .search .ensures)
 
 returns-2 : tie.Need-returns-2
-returns-2 c = rw (← c .before .before .box-for .ensures, le-ltb _ 128 (c .before .if1 .left)) (c .look-back .ensures)
+returns-2 c = rw (← c .before .before .box-for .ensures, le-ltb _ 128 (c .before .if1 .left)) (c .search-all .ensures)
 
 pub happened-spec : {M : Type 1} → statement M
 happened-spec =
