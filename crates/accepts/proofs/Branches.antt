@@ -17,11 +17,11 @@ unsealed-parts file r server sid a b m na nb =
     let x = both8 (sealedOf file r .is) sid a b m na nb (choose server (sealedOf file r .server) (not (sealedOf file r .server))) t in
     key-of file r server (x .0) (x .7))
 
-and-false : (a : Bool) → (a && false) ≡ false
+pub and-false : (a : Bool) → (a && false) ≡ false
 and-false true = refl
 and-false false = refl
 
-and-true : (a : Bool) → (a && true) ≡ a
+pub and-true : (a : Bool) → (a && true) ≡ a
 and-true true = refl
 and-true false = refl
 

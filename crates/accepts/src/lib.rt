@@ -39,25 +39,34 @@ fn mark_row(marks: &mut [u8; 1024], r: u16)
     }
 }
 
-fn mark_event(file: &[u8], marks: &mut [u8; 1024], j: u16, server: bool, to: u16)
-    ensures { λ _. ⌜ now (marks .exit) ≡ markEvent (now (file .entry)) server to j (now (marks .entry)) ⌝ }
+fn mark_event(
+    file: &[u8],
+    boxes: &[u16; 2688],
+    marks: &mut [u8; 1024],
+    j: u16,
+    server: bool,
+    to: u16,
+)
+    ensures { λ _. ⌜ now (marks .exit) ≡ markEvent (now (file .entry)) (now (boxes .entry)) server to j (now (marks .entry)) ⌝ }
 {
     let h = earlier::hear(file, j);
-    let told = told_here(file, h, server, to);
-    if told {
-        let c = forms::leaves::crypt_of(file, h.row);
-        mark_row(marks, c.second);
+    let said = earlier::said_to(h, to);
+    let seal = earlier::boxes::sealed(boxes, server, j);
+    if said {
+        if 0 < seal {
+            mark_row(marks, seal - 1);
+        }
     }
 }
 
 // The hashes of the Finished that an agent was told are marked.
-fn mark_told(file: &[u8], boxes: &[u16; 1664], marks: &mut [u8; 1024], server: bool, to: u16)
+fn mark_told(file: &[u8], boxes: &[u16; 2688], marks: &mut [u8; 1024], server: bool, to: u16)
     ensures { λ _. ⌜ now (marks .exit) ≡
-        markAll (now (file .entry)) server to (chainFrom (now (boxes .entry)) (latestTo (now (boxes .entry)) to)) (now (marks .entry)) ⌝ }
+        markAll (now (file .entry)) (now (boxes .entry)) server to (chainFrom (now (boxes .entry)) (latestTo (now (boxes .entry)) to)) (now (marks .entry)) ⌝ }
 {
     let mut link = earlier::boxes::latest_to(boxes, to);
     while 0 < link {
-        mark_event(file, marks, link - 1, server, to);
+        mark_event(file, boxes, marks, link - 1, server, to);
         link = earlier::boxes::next(boxes, link);
     }
 }
@@ -131,9 +140,10 @@ fn said_finished(
     false
 }
 
-// Whether event i is that Finished, and the other side's was told.
+// Whether event i is that Finished, and the other side's was told. It is read whole only where its hash was told.
 fn agreed_at(
     file: &[u8],
+    boxes: &[u16; 2688],
     marks: &[u8; 1024],
     e: u16,
     i: u16,
@@ -147,20 +157,26 @@ fn agreed_at(
     na: u16,
     nb: u16,
 ) -> bool
-    ensures { λ r. ⌜ r ≡ agreedIn (now (file .entry)) (now (marks .entry)) e server from to sid a b m na nb i ⌝ }
+    ensures { λ r. ⌜ r ≡ agreedIn (now (file .entry)) (now (boxes .entry)) (now (marks .entry)) e server from to sid a b m na nb i ⌝ }
 {
     let h = earlier::hear(file, i);
-    let said = said_finished(file, h, server, from, to, sid, a, b, m, na, nb);
+    let said = earlier::said_by(h, from, to);
     if said {
-        let c = forms::leaves::crypt_of(file, h.row);
-        return answered(file, marks, e, !server, from, c.second);
+        let seal = earlier::boxes::sealed(boxes, server, i);
+        if 0 < seal {
+            let c = forms::leaves::crypt_of(file, h.row);
+            let told = answered(file, marks, e, !server, from, c.second);
+            if told {
+                return said_finished(file, h, server, from, to, sid, a, b, m, na, nb);
+            }
+        }
     }
     false
 }
 
 fn agreed_any(
     file: &[u8],
-    boxes: &[u16; 1664],
+    boxes: &[u16; 2688],
     marks: &[u8; 1024],
     e: u16,
     server: bool,
@@ -174,12 +190,27 @@ fn agreed_any(
     nb: u16,
 ) -> bool
     ensures { λ r. ⌜ r ≡
-        some (agreedIn (now (file .entry)) (now (marks .entry)) e server from to sid a b m na nb) (chainFrom (now (boxes .entry)) (latestTo (now (boxes .entry)) to)) ⌝ }
+        some (agreedIn (now (file .entry)) (now (boxes .entry)) (now (marks .entry)) e server from to sid a b m na nb) (chainFrom (now (boxes .entry)) (latestTo (now (boxes .entry)) to)) ⌝ }
 {
     let mut link = earlier::boxes::latest_to(boxes, to);
     while 0 < link {
         let i = link - 1;
-        let found = agreed_at(file, marks, e, i, server, from, to, sid, a, b, m, na, nb);
+        let found = agreed_at(
+            file,
+            boxes,
+            marks,
+            e,
+            i,
+            server,
+            from,
+            to,
+            sid,
+            a,
+            b,
+            m,
+            na,
+            nb,
+        );
         if found {
             return true;
         }
@@ -192,7 +223,7 @@ fn agreed_any(
 // the hashes that were told are marked first.
 fn both_finished(
     file: &[u8],
-    boxes: &[u16; 1664],
+    boxes: &[u16; 2688],
     e: u16,
     server: bool,
     from: u16,
@@ -240,7 +271,7 @@ fn noted_by_server(h: Heard, n: Remembered, p: Three) -> bool
 }
 
 // Rule 10: ClientAccepts.
-pub fn client_accepts(file: &[u8], boxes: &[u16; 1664], e: u16, h: Heard) -> bool
+pub fn client_accepts(file: &[u8], boxes: &[u16; 2688], e: u16, h: Heard) -> bool
     ensures { λ b. ⌜ b ≡ clientAccepts (now (file .entry)) (found (now (file .entry)) (now (boxes .entry))) (bothIn (now (file .entry)) (now (boxes .entry)) e) h ⌝ }
 {
     if !h.says {
@@ -271,7 +302,7 @@ pub fn client_accepts(file: &[u8], boxes: &[u16; 1664], e: u16, h: Heard) -> boo
 }
 
 // Rule 11: ServerAccepts.
-pub fn server_accepts(file: &[u8], boxes: &[u16; 1664], e: u16, h: Heard) -> bool
+pub fn server_accepts(file: &[u8], boxes: &[u16; 2688], e: u16, h: Heard) -> bool
     ensures { λ b. ⌜ b ≡ serverAccepts (now (file .entry)) (found (now (file .entry)) (now (boxes .entry))) (bothIn (now (file .entry)) (now (boxes .entry)) e) h ⌝ }
 {
     if !h.says {

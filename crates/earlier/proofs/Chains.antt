@@ -21,11 +21,16 @@ use Rattle.earlier.specs.declared.Heard.{Heard}
 use Rattle.earlier.specs.declared.Wanted.{Wanted}
 use Rattle.earlier.specs.declared.Wanted.the-variants.{HelloFor, HelloBy, HelloTo, ReplyWith, ReplyTo, ReplyBy, Cert, Secret, Sent, Session, Under}
 use Rattle.earlier.specs.Earlier.{heardAt, saidTo, saidBy, notedBy, sameHeard, fitsIn, earlier, past}
-use Rattle.earlier.specs.Boxes.{boxOf, boxFor, behind, next, chain, chainFrom, some, found, slotOf, isAgain, keptIn, Reach, here, further, Boxed}
+use Rattle.earlier.specs.Boxes.{boxOf, boxFor, behind, next, chain, chainFrom, some, found, slotOf, isAgain, sealMark, sealAt, boxedIn, sealedIn, keptIn, Reach, here, further, Linked, Boxed}
 
 or-true : (a : Bool) → (a || true) ≡ true
 or-true true = refl
 or-true false = refl
+
+-- all of the list lie before e
+pub data Below (e : ℕ) : List ℕ → Type 0 where
+  none : Below e []
+  more : {j : ℕ} {js : List ℕ} → j < e → Below e js → Below e (j ∷ js)
 
 module _ (boxes : List ℕ) where
   pub next-falls : (link : ℕ) → 0 < link → next boxes link < link
@@ -52,6 +57,18 @@ module _ (boxes : List ℕ) where
       go (yes p) ih = rw (lt-ltb 0 link p, chain) (ap (λ (js : List ℕ). (link - 1) ∷ js) (ih p))
       go (no p) ih = rw (le-ltb 0 link (omega arith), chain) refl
 
+  chain-in : (e d link : ℕ) → link ≤ e → Below e (chain boxes d link)
+  unfolding chain
+  chain-in e zero link l = none
+  chain-in e (suc d) link l = go (decLt 0 link) (λ (p : 0 < link). chain-in e d (next boxes link) (omega (arith, next-falls link p)))
+    where
+      go : Dec (0 < link) → (0 < link → Below e (chain boxes d (next boxes link))) → Below e (chain boxes (suc d) link)
+      go (yes p) ih = let l′ : link - 1 < e = omega arith in rw (lt-ltb 0 link p, chain) (more {j = link - 1} l′ (ih p))
+      go (no p) ih = rw (le-ltb 0 link (omega arith), chain) none
+
+  pub chain-below : (e link : ℕ) → link ≤ e → Below e (chainFrom boxes link)
+  chain-below e link l = chain-in e link link l
+
   chain-one : (d link : ℕ) → 0 < link → chain boxes (suc d) link ≡ ((link - 1) ∷ chain boxes d (next boxes link))
   unfolding chain
   chain-one d link p =
@@ -76,6 +93,11 @@ module _ (boxes : List ℕ) where
     pub some-end : (link : ℕ) → link ≡ 0 → some p (chainFrom boxes link) ≡ false
     unfolding some
     some-end link z = ap (some p) (chain-end link z)
+
+    pub some-same : {q : ℕ → Bool} {e : ℕ} {js : List ℕ} → ((j : ℕ) → j < e → p j ≡ q j) → Below e js → some p js ≡ some q js
+    unfolding some
+    some-same h none = refl
+    some-same h (more {j} l b) = rw (h j l, some-same h b) refl
 
     -- what is found is below the link
     some-in : (d link : ℕ) → some p (chain boxes d link) ≡ true → (s : ℕ) × (s < link) × (p s ≡ true)
@@ -142,18 +164,21 @@ zeros zero i = refl
 zeros (suc n) zero = refl
 zeros (suc n) (suc i) = zeros n i
 
-pub none-boxed : (file : List ℕ) → Boxed file (replicate 1664 0) 0
-none-boxed file =
+none-linked : (file : List ℕ) → Linked file (replicate 2688 0) 0
+none-linked file =
     record {
-      room = length-replicate {A = ℕ} 1664 0;
+      room = length-replicate {A = ℕ} 2688 0;
       few = omega arith;
-      falls = λ e l. rw (zeros 1664 (128 + e)) (omega arith);
-      low = λ b l. rw (zeros 1664 b) (omega arith);
+      falls = λ e l. rw (zeros 2688 (128 + e)) (omega arith);
+      low = λ b l. rw (zeros 2688 b) (omega arith);
       kept = λ j l. absurd (omega arith);
     }
 
+pub none-boxed : (file : List ℕ) → Boxed file (replicate 2688 0) 0
+none-boxed file = record { links = none-linked file; seals = λ server j l. absurd (omega arith) }
+
 -- event e, with those before it in their boxes
-module _ (file boxes : List ℕ) (e : ℕ) (x : Boxed file boxes e) (few : e < 512) where
+module _ (file boxes : List ℕ) (e : ℕ) (x : Linked file boxes e) (few : e < 512) where
   abbrev b : ℕ
   b = boxOf (heardAt file e)
 
@@ -177,8 +202,8 @@ module _ (file boxes : List ℕ) (e : ℕ) (x : Boxed file boxes e) (few : e < 5
       (k .0, rw q at (k .1), k .2 ∙ q)
 
   -- one that equals it is there
-  again-boxed : isAgain file e (getD boxes slot 0) (heardAt file e) ≡ true → Boxed file boxes (suc e)
-  again-boxed t =
+  again-linked : isAgain file e (getD boxes slot 0) (heardAt file e) ≡ true → Linked file boxes (suc e)
+  again-linked t =
       record {
         room = x .room;
         few = omega arith;
@@ -266,8 +291,8 @@ module _ (file boxes : List ℕ) (e : ℕ) (x : Boxed file boxes e) (few : e < 5
   new-kept : (s : ℕ) × Reach boxes′ (getD boxes′ b 0) s × (heardAt file s ≡ heardAt file e)
   new-kept = (e, rw new-head (here refl), refl)
 
-  more-boxed : Boxed file boxes′ (suc e)
-  more-boxed =
+  more-linked : Linked file boxes′ (suc e)
+  more-linked =
       record {
         room = length-set headed slot (e + 1) ∙ length-set longer b (e + 1) ∙ length-set boxes (128 + e) head ∙ x .room;
         few = omega arith;
@@ -276,16 +301,113 @@ module _ (file boxes : List ℕ) (e : ℕ) (x : Boxed file boxes e) (few : e < 5
         kept = λ j l. ⊎-elim (λ (l′ : j < e). old-kept j l′) (λ (q : j ≡ e). rw q new-kept) (lt-suc j e l);
       }
 
-  pub keep-boxed : Boxed file (keptIn file boxes e) (suc e)
-  keep-boxed = go (bool-cases (isAgain file e (getD boxes slot 0) (heardAt file e)))
+  boxed-linked : Linked file (boxedIn file boxes e) (suc e)
+  boxed-linked = go (bool-cases (isAgain file e (getD boxes slot 0) (heardAt file e)))
     where
       go : (isAgain file e (getD boxes slot 0) (heardAt file e) ≡ true) ⊎ (isAgain file e (getD boxes slot 0) (heardAt file e) ≡ false) →
-          Boxed file (keptIn file boxes e) (suc e)
-      go (inl t) = rw (lt-ltb e 512 few, t) (again-boxed t)
-      go (inr f) = rw (lt-ltb e 512 few, f) more-boxed
+          Linked file (boxedIn file boxes e) (suc e)
+      go (inl t) = rw t (again-linked t)
+      go (inr f) = rw f more-linked
+
+  -- what lies behind the slots stays
+  boxed-far : (k : ℕ) → 1664 ≤ k → getD (boxedIn file boxes e) k 0 ≡ getD boxes k 0
+  boxed-far k l = go (isAgain file e (getD boxes slot 0) (heardAt file e))
+    where
+      go : (again : Bool) → getD (choose (not again) boxes′ boxes) k 0 ≡ getD boxes k 0
+      go true = refl
+      go false =
+          getD-set-other headed slot k (e + 1) 0 (λ q. omega (arith, slot-room)) ∙
+          getD-set-other longer b k (e + 1) 0 (λ q. omega (arith, box-room (heardAt file e))) ∙
+          getD-set-other boxes (128 + e) k head 0 (λ q. omega arith)
+
+-- a store behind the boxes and events leaves the links
+module _ (file boxes : List ℕ) (n at v : ℕ) (far : 640 ≤ at) (x : Linked file boxes n) where
+  abbrev stored : List ℕ
+  stored = set boxes at v
+
+  near-same : (k : ℕ) → k < 640 → getD stored k 0 ≡ getD boxes k 0
+  near-same k l = getD-set-other boxes at k v 0 (λ q. omega arith)
+
+  reach-stored : (link s : ℕ) → link ≤ 512 → Reach boxes link s → Reach stored link s
+  reach-stored link s l (here q) = here q
+  reach-stored link s l (further p r) =
+      let same : behind stored (link - 1) ≡ behind boxes (link - 1) = near-same (128 + (link - 1)) (omega arith) in
+      further {s = s} p (rw same (reach-stored (behind boxes (link - 1)) s (omega (arith, x .falls (link - 1) (omega arith))) r))
+
+  stored-linked : Linked file stored n
+  stored-linked =
+      record {
+        room = length-set boxes at v ∙ x .room;
+        few = x .few;
+        falls = λ j l. rw (near-same (128 + j) (omega arith)) (x .falls j l);
+        low = λ k l. rw (near-same k (omega arith)) (x .low k l);
+        kept = λ j l. moved j (x .kept j l);
+      }
+    where
+      moved : (j : ℕ) → (s : ℕ) × Reach boxes (getD boxes (boxOf (heardAt file j)) 0) s × (heardAt file s ≡ heardAt file j) →
+          (s : ℕ) × Reach stored (getD stored (boxOf (heardAt file j)) 0) s × (heardAt file s ≡ heardAt file j)
+      moved j (s, r, q) =
+          let l = box-room (heardAt file j) in (
+            s,
+            rw (near-same (boxOf (heardAt file j)) (omega (arith, l)))
+                (reach-stored (getD boxes (boxOf (heardAt file j)) 0) s (omega (arith, x .few, x .low (boxOf (heardAt file j)) l)) r),
+            q,
+          )
+
+module _ (file boxes : List ℕ) (e : ℕ) (x : Boxed file boxes e) (few : e < 512) where
+  abbrev linked : List ℕ
+  linked = boxedIn file boxes e
+
+  abbrev row : ℕ
+  row = heardAt file e .row
+
+  abbrev client : List ℕ
+  client = set linked (1664 + e) (sealMark file false row)
+
+  abbrev both-sides : List ℕ
+  both-sides = set client (2176 + e) (sealMark file true row)
+
+  links′ : Linked file both-sides (suc e)
+  links′ =
+      stored-linked file client (suc e) (2176 + e) (sealMark file true row) (omega arith)
+      (stored-linked file linked (suc e) (1664 + e) (sealMark file false row) (omega arith) (boxed-linked file boxes e (x .links) few))
+
+  room : length linked ≡ 2688
+  room = boxed-linked file boxes e (x .links) few .room
+
+  client-new : getD both-sides (1664 + e) 0 ≡ sealMark file false row
+  client-new =
+      getD-set-other client (2176 + e) (1664 + e) (sealMark file true row) 0 (λ q. omega arith) ∙
+      getD-set-same linked (1664 + e) (sealMark file false row) 0 (omega (arith, room))
+
+  server-new : getD both-sides (2176 + e) 0 ≡ sealMark file true row
+  server-new =
+      getD-set-same client (2176 + e) (sealMark file true row) 0
+      (omega (arith, room, length-set linked (1664 + e) (sealMark file false row)))
+
+  seal-old : (k : ℕ) → 1664 ≤ k → ¬ (k ≡ 1664 + e) → ¬ (k ≡ 2176 + e) → getD both-sides k 0 ≡ getD boxes k 0
+  seal-old k l n m =
+      getD-set-other client (2176 + e) k (sealMark file true row) 0 m ∙
+      getD-set-other linked (1664 + e) k (sealMark file false row) 0 n ∙
+      boxed-far file boxes e (x .links) few k l
+
+  seals′ : (server : Bool) (j : ℕ) → j < suc e → sealAt both-sides server j ≡ sealMark file server (heardAt file j .row)
+  seals′ server j l = rw (lt-ltb j 512 (omega arith)) (at server (lt-suc j e l))
+    where
+      old : (server : Bool) → j < e → getD boxes (choose server 2176 1664 + j) 0 ≡ sealMark file server (heardAt file j .row)
+      old server m = rw (lt-ltb j 512 (omega arith)) at (x .seals server j m)
+
+      at : (server : Bool) → (j < e) ⊎ (j ≡ e) → getD both-sides (choose server 2176 1664 + j) 0 ≡ sealMark file server (heardAt file j .row)
+      at true (inl m) = seal-old (2176 + j) (omega arith) (λ q. omega arith) (λ q. omega arith) ∙ old true m
+      at false (inl m) = seal-old (1664 + j) (omega arith) (λ q. omega arith) (λ q. omega arith) ∙ old false m
+      at true (inr q) = rw q server-new
+      at false (inr q) = rw q client-new
+
+  pub keep-boxed : Boxed file (keptIn file boxes e) (suc e)
+  keep-boxed = rw (lt-ltb e 512 few) (record { links = links′; seals = seals′ })
 
 -- a box has what happened
-pub chain-any : (file boxes : List ℕ) (e : ℕ) → Boxed file boxes e → (p : Heard → Bool) (b : ℕ) → b < 128 →
+pub chain-any : (file boxes : List ℕ) (e : ℕ) → Linked file boxes e → (p : Heard → Bool) (b : ℕ) → b < 128 →
     ((h : Heard) → p h ≡ true → boxOf h ≡ b) →
     some (λ j. p (heardAt file j)) (chainFrom boxes (getD boxes b 0)) ≡ any (λ j. p (heardAt file j)) e
 chain-any file boxes e x p b l box = go (bool-cases (some (λ j. p (heardAt file j)) (chainFrom boxes (getD boxes b 0))))
@@ -338,7 +460,7 @@ fits-box file (Session from sid a b m) h l t = noted-box h from (both (notedBy h
 fits-box file (Under from key) h l t = absurd (omega arith)
 
 -- the boxes of what is said have all that was said
-any-box : (file boxes : List ℕ) (e : ℕ) → Boxed file boxes e → (p : Heard → Bool) → ((h : Heard) → p h ≡ true → h .says ≡ true) →
+any-box : (file boxes : List ℕ) (e : ℕ) → Linked file boxes e → (p : Heard → Bool) → ((h : Heard) → p h ≡ true → h .says ≡ true) →
     any (λ b. some (λ j. p (heardAt file j)) (chainFrom boxes (getD boxes b 0))) 64 ≡ any (λ j. p (heardAt file j)) e
 any-box file boxes e x p says = go (bool-cases (any (λ b. some (λ j. p (heardAt file j)) (chainFrom boxes (getD boxes b 0))) 64))
   where
@@ -385,7 +507,7 @@ far-said file (Sent to secret) h l t = near to l
 far-said file (Session from sid a b m) h l t = noted-near from l
 far-said file (Under from key) h l t = both (h .says) (eqb (h .from) from) (both (h .says && eqb (h .from) from) _ t .0) .0
 
-found-earlier : (file boxes : List ℕ) (e : ℕ) → Boxed file boxes e → (wanted : Wanted) → found file boxes wanted ≡ past file e wanted
+found-earlier : (file boxes : List ℕ) (e : ℕ) → Linked file boxes e → (wanted : Wanted) → found file boxes wanted ≡ past file e wanted
 unfolding earlier
 found-earlier file boxes e x wanted = go (decLt (boxFor wanted) 128)
   where
@@ -397,38 +519,42 @@ found-earlier file boxes e x wanted = go (decLt (boxFor wanted) 128)
         rw (le-ltb (boxFor wanted) 128 (omega arith))
         (any-box file boxes e x (fitsIn file wanted) (λ h. far-said file wanted h (omega arith)))
 
-pub found-past : (file boxes : List ℕ) (e : ℕ) → Boxed file boxes e → found file boxes ≡ past file e
+pub found-past : (file boxes : List ℕ) (e : ℕ) → Linked file boxes e → found file boxes ≡ past file e
 found-past file boxes e x = λ i wanted. found-earlier file boxes e x wanted i
 
--- what `keep` leaves, by what it found
+-- what `box_event` leaves, by what it found
 module _ (file boxes : List ℕ) (e : ℕ) {h : Heard} (heard : h ≡ heardAt file e) {at slot : ℕ} (box : at ≡ boxOf h) (place : slot ≡ slotOf h)
     {again : Bool} (test : again ≡ isAgain file e (getD boxes (640 + slot) 0) h) where
   abbrev writtenAt : ℕ → ℕ → List ℕ
   writtenAt at slot = set (set (set boxes (128 + e) (getD boxes at 0)) at (e + 1)) (640 + slot) (e + 1)
 
-  abbrev keptBy : ℕ → ℕ → Bool → List ℕ
-  keptBy at slot again = choose (ltb e 512 && not again) (writtenAt at slot) boxes
+  abbrev boxedBy : ℕ → ℕ → Bool → List ℕ
+  boxedBy at slot again = choose (not again) (writtenAt at slot) boxes
 
-  keep-is : keptBy at slot again ≡ keptIn file boxes e
-  keep-is =
+  boxed-is : boxedBy at slot again ≡ boxedIn file boxes e
+  boxed-is =
       let b : at ≡ boxOf (heardAt file e) = box ∙ ap boxOf heard in
       let s : slot ≡ slotOf (heardAt file e) = place ∙ ap slotOf heard in
       let a : again ≡ isAgain file e (getD boxes (640 + slotOf (heardAt file e)) 0) (heardAt file e) =
       test ∙ (λ i. isAgain file e (getD boxes (640 + s i) 0) (heard i))
       in
-      λ i. keptBy (b i) (s i) (a i)
+      λ i. boxedBy (b i) (s i) (a i)
 
-  pub keep-new : e < 512 → not again ≡ true → writtenAt at slot ≡ keptIn file boxes e
-  keep-new l t =
-      let w : keptBy at slot again ≡ writtenAt at slot = rw (lt-ltb e 512 l, t) refl in
-      sym w ∙ keep-is
+  pub box-new : not again ≡ true → writtenAt at slot ≡ boxedIn file boxes e
+  box-new t =
+      let w : boxedBy at slot again ≡ writtenAt at slot = rw t refl in
+      sym w ∙ boxed-is
 
-  pub keep-old : e < 512 → not again ≡ false → boxes ≡ keptIn file boxes e
-  keep-old l t =
-      let w : keptBy at slot again ≡ boxes = rw (lt-ltb e 512 l, t) refl in
-      sym w ∙ keep-is
+  pub box-old : not again ≡ false → boxes ≡ boxedIn file boxes e
+  box-old t =
+      let w : boxedBy at slot again ≡ boxes = rw t refl in
+      sym w ∙ boxed-is
 
-  pub keep-past : 512 ≤ e → boxes ≡ keptIn file boxes e
-  keep-past l =
-      let w : keptBy at slot again ≡ boxes = rw (le-ltb e 512 l) refl in
-      sym w ∙ keep-is
+pub keep-writes : (file boxes : List ℕ) (e : ℕ) {h : Heard} {linked : List ℕ} {client server : ℕ} → e < 512 → h ≡ heardAt file e →
+    linked ≡ boxedIn file boxes e → client ≡ sealMark file false (h .row) → server ≡ sealMark file true (h .row) →
+    set (set linked (1664 + e) client) (2176 + e) server ≡ keptIn file boxes e
+keep-writes file boxes e {h} {linked} {client} {server} l heard q c s =
+    let c′ : client ≡ sealMark file false (heardAt file e .row) = c ∙ (λ i. sealMark file false (heard i .row)) in
+    let s′ : server ≡ sealMark file true (heardAt file e .row) = s ∙ (λ i. sealMark file true (heard i .row)) in
+    let w : keptIn file boxes e ≡ sealedIn file (boxedIn file boxes e) e = rw (lt-ltb e 512 l) refl in
+    (λ i. set (set (q i) (1664 + e) (c′ i)) (2176 + e) (s′ i)) ∙ sym w

@@ -1,7 +1,7 @@
 // Earlier events by their boxes, so that a search looks only where its event can lie.
 //
 // An event lies in the box of its receiver, and a note in one of its agent's own. The array has 128 boxes, 512
-// events and 1,024 slots. A box leads to its latest event, an event to the one before it in its box, and a slot to
+// events, 1,024 slots, and the hash of each event's Finished, the client's and the server's. A box leads to its latest event, an event to the one before it in its box, and a slot to
 // the last event that was kept there: by one more than the event's number, or 0 for none. An event that equals the one
 // at its slot is not kept again, so that repeats cost nothing.
 use super::Heard;
@@ -14,7 +14,7 @@ ghost use Prim.Native.Nat.{_<_};
 ghost use lib.ListN.{getD};
 ghost use Rattle.trace.specs.First.{any};
 ghost use Rattle.earlier.specs.Earlier.{heardAt, fitsIn};
-ghost use Rattle.earlier.specs.Boxes.{boxOf, boxFor, latestTo, next, chainFrom, some, slotOf, isAgain, keptIn};
+ghost use Rattle.earlier.specs.Boxes.{boxOf, boxFor, latestTo, next, chainFrom, some, slotOf, isAgain, sealMark, sealAt, boxedIn, keptIn};
 
 const AGENTS: u16 = 64;
 
@@ -27,6 +27,15 @@ const EVENTS: u16 = 512;
 const SLOTS_AT: usize = 640;
 
 const SLOTS: usize = 1024;
+
+const CLIENTS_AT: usize = 1664;
+
+const SERVERS_AT: usize = 2176;
+
+const ROWS: u16 = 1024;
+
+// A hash past the rows that have marks.
+const FAR: u16 = 65535;
 
 fn box_of(h: Heard) -> u16
     ensures { λ b. ⌜ (b ≡ boxOf h) × (b < 128) ⌝ }
@@ -58,14 +67,14 @@ pub fn box_for(wanted: Wanted) -> u16
 }
 
 // The latest event that was said to an agent: one more than its number, or 0.
-pub fn latest_to(boxes: &[u16; 1664], to: u16) -> u16
+pub fn latest_to(boxes: &[u16; 2688], to: u16) -> u16
     ensures { λ link. ⌜ link ≡ latestTo (now (boxes .entry)) to ⌝ }
 {
     boxes[(to % AGENTS) as usize]
 }
 
 // The next link of a chain. It falls, so that every walk ends, whatever the array holds.
-pub fn next(boxes: &[u16; 1664], link: u16) -> u16
+pub fn next(boxes: &[u16; 2688], link: u16) -> u16
     ensures { λ l. ⌜ l ≡ next (now (boxes .entry)) link ⌝ }
 {
     if EVENTS < link {
@@ -79,7 +88,7 @@ pub fn next(boxes: &[u16; 1664], link: u16) -> u16
 }
 
 // Whether an event of the chain is what is wanted, the latest first.
-pub fn search(file: &[u8], boxes: &[u16; 1664], wanted: Wanted, head: u16) -> bool
+pub fn search(file: &[u8], boxes: &[u16; 2688], wanted: Wanted, head: u16) -> bool
     ensures { λ b. ⌜ b ≡ some (λ j. fitsIn (now (file .entry)) wanted (heardAt (now (file .entry)) j)) (chainFrom (now (boxes .entry)) head) ⌝ }
 {
     let mut link = head;
@@ -94,7 +103,7 @@ pub fn search(file: &[u8], boxes: &[u16; 1664], wanted: Wanted, head: u16) -> bo
 }
 
 // The same in the boxes of all receivers.
-pub fn search_all(file: &[u8], boxes: &[u16; 1664], wanted: Wanted) -> bool
+pub fn search_all(file: &[u8], boxes: &[u16; 2688], wanted: Wanted) -> bool
     ensures { λ b. ⌜ b ≡ any (λ b. some (λ j. fitsIn (now (file .entry)) wanted (heardAt (now (file .entry)) j))
         (chainFrom (now (boxes .entry)) (getD (now (boxes .entry)) b 0))) 64 ⌝ }
 {
@@ -129,19 +138,62 @@ fn is_again(file: &[u8], e: u16, link: u16, h: Heard) -> bool
     same_heard(g, h)
 }
 
-// Event e is put into its box, unless its slot leads to one that equals it.
-pub fn keep(file: &[u8], boxes: &mut [u16; 1664], e: u16)
-    ensures { λ _. ⌜ now (boxes .exit) ≡ keptIn (now (file .entry)) (now (boxes .entry)) e ⌝ }
+// The hash of a Finished of that side, by one more than its row, or 0 where the row is none.
+fn seal_of(file: &[u8], r: u16, server: bool) -> u16
+    ensures { λ m. ⌜ m ≡ sealMark (now (file .entry)) server r ⌝ }
 {
-    let h = hear(file, e);
+    let own = forms::under_key(file, r, server);
+    if own {
+        let f = forms::finished(file, r);
+        let side = forms::on_side(server, f.server);
+        if (f.is) & side {
+            if f.hash < ROWS {
+                return f.hash + 1;
+            }
+            return FAR;
+        }
+    }
+    0
+}
+
+// What `seal_of` said of an event's row when it was kept.
+pub fn sealed(boxes: &[u16; 2688], server: bool, e: u16) -> u16
+    ensures { λ m. ⌜ m ≡ sealAt (now (boxes .entry)) server e ⌝ }
+{
+    if EVENTS <= e {
+        return 0;
+    }
+    if server {
+        boxes[SERVERS_AT + (e as usize)]
+    } else {
+        boxes[CLIENTS_AT + (e as usize)]
+    }
+}
+
+// Event e is put into its box, unless its slot leads to one that equals it.
+fn box_event(file: &[u8], boxes: &mut [u16; 2688], e: u16, h: Heard)
+    requires { ⌜ e < 512 ⌝ }
+    requires { ⌜ h ≡ heardAt (now file) e ⌝ }
+    ensures { λ _. ⌜ now (boxes .exit) ≡ boxedIn (now (file .entry)) (now (boxes .entry)) e ⌝ }
+{
     let at = box_of(h) as usize;
     let slot = SLOTS_AT + slot_of(h);
     let again = is_again(file, e, boxes[slot], h);
+    if !again {
+        boxes[BOXES + (e as usize)] = boxes[at];
+        boxes[at] = e + 1;
+        boxes[slot] = e + 1;
+    }
+}
+
+// Event e is kept: in its box, and by the hash of its Finished.
+pub fn keep(file: &[u8], boxes: &mut [u16; 2688], e: u16)
+    ensures { λ _. ⌜ now (boxes .exit) ≡ keptIn (now (file .entry)) (now (boxes .entry)) e ⌝ }
+{
     if e < EVENTS {
-        if !again {
-            boxes[BOXES + (e as usize)] = boxes[at];
-            boxes[at] = e + 1;
-            boxes[slot] = e + 1;
-        }
+        let h = hear(file, e);
+        box_event(file, boxes, e, h);
+        boxes[CLIENTS_AT + (e as usize)] = seal_of(file, h.row, false);
+        boxes[SERVERS_AT + (e as usize)] = seal_of(file, h.row, true);
     }
 }

@@ -292,7 +292,7 @@ fn fits(file: &[u8], wanted: Wanted, e: u16) -> bool
 }
 
 // Whether some earlier event is what is wanted. The message is read only where sender and receiver fit.
-pub fn happened(file: &[u8], boxes: &[u16; 1664], wanted: Wanted) -> bool
+pub fn happened(file: &[u8], boxes: &[u16; 2688], wanted: Wanted) -> bool
     ensures { λ b. ⌜ b ≡ found (now (file .entry)) (now (boxes .entry)) wanted ⌝ }
 {
     let at = boxes::box_for(wanted) as usize;

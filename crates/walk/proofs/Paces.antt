@@ -198,7 +198,7 @@ cleared-more i bytes bs bs′ e q = rw (add-one, ← e) q
 module _ (file : List ℕ) (N i : ℕ) {us rs ks bs : List ℕ} (b : Before file i us rs ks bs) {h : Heard} (eh : h ≡ heardAt file i) {k : ℕ}
     (ek : k ≡ lowestRule file us rs (found file bs) (bothIn file bs i) h) where
   finds : found file bs ≡ past file i
-  finds = found-past file bs i (b .kept)
+  finds = found-past file bs i (b .kept .links)
 
   rule-is : k ≡ ruleOf file i
   rule-is = ek ∙ (λ j. lowestRule file (b .uses j) (b .sees j) (finds j) (both-past file bs i (b .kept) j) (eh j))

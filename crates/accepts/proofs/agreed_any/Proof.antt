@@ -13,8 +13,8 @@ use Rattle.accepts.proofs.agreed_any.Tie as tie
 
 abbrev Inv-loop : tie.InvT-loop
 Inv-loop file boxes marks e server from to sid a b m na nb link₀ link =
-    some (agreedIn file marks e server from to sid a b m na nb) (chainFrom boxes link) ≡
-    some (agreedIn file marks e server from to sid a b m na nb) (chainFrom boxes (latestTo boxes to))
+    some (agreedIn file boxes marks e server from to sid a b m na nb) (chainFrom boxes link) ≡
+    some (agreedIn file boxes marks e server from to sid a b m na nb) (chainFrom boxes (latestTo boxes to))
 
 abbrev μ-loop : tie.MeasureT-loop
 μ-loop file boxes marks e server from to sid a b m na nb link₀ link = link
@@ -26,7 +26,7 @@ returns c =
     sym
     (sym (l .inv) ∙
     some-step (now (x .boxes))
-    (agreedIn (now (x .file)) (now (x .marks)) (x .e) (x .server) (x .from) (x .to) (x .sid) (x .a) (x .b) (x .m) (x .na) (x .nb))
+    (agreedIn (now (x .file)) (now (x .boxes)) (now (x .marks)) (x .e) (x .server) (x .from) (x .to) (x .sid) (x .a) (x .b) (x .m) (x .na) (x .nb))
     (l .link) (c .before .before .loop-test .taken) ∙
     rw (sym (c .before .agreed-at .ensures) ∙ c .if1 .taken) refl)
 
@@ -43,7 +43,7 @@ loop-again c =
     rw (c .next .ensures)
     (sym
     (some-step (now (x .boxes))
-    (agreedIn (now (x .file)) (now (x .marks)) (x .e) (x .server) (x .from) (x .to) (x .sid) (x .a) (x .b) (x .m) (x .na) (x .nb))
+    (agreedIn (now (x .file)) (now (x .boxes)) (now (x .marks)) (x .e) (x .server) (x .from) (x .to) (x .sid) (x .a) (x .b) (x .m) (x .na) (x .nb))
     (l .link) (c .before .before .before .loop-test .taken) ∙
     rw (sym (c .before .before .agreed-at .ensures) ∙ c .before .if1 .left) refl) ∙
     l .inv)
@@ -55,7 +55,7 @@ returns-2 c =
     sym
     (sym (l .inv) ∙
     some-end (now (x .boxes))
-    (agreedIn (now (x .file)) (now (x .marks)) (x .e) (x .server) (x .from) (x .to) (x .sid) (x .a) (x .b) (x .m) (x .na) (x .nb))
+    (agreedIn (now (x .file)) (now (x .boxes)) (now (x .marks)) (x .e) (x .server) (x .from) (x .to) (x .sid) (x .a) (x .b) (x .m) (x .na) (x .nb))
     (l .link) (omega arith))
 
 pub agreed-any-spec : {M : Type 1} → statement M

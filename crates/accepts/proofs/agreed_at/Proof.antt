@@ -1,30 +1,52 @@
--- `accepts::agreed_at` meets its contract: the hash is looked up only if the Finished is the one asked for.
+-- `accepts::agreed_at` meets its contract: each test that fails settles the conjunction.
 -- Assumes nothing.
 use mathlib.Core.Path.{refl}
+use borrow.Author.Tests.{lt-ltb, le-ltb}
 use borrow.Author.Needs.{needs}
-use Rattle.forms.proofs.Keyed.{hash-row}
 use Rattle.accepts.proofs.agreed_at.Statement.{statement}
 use Rattle.accepts.proofs.agreed_at.Tie as tie
 
 returns : tie.Need-returns
 returns c =
     rw (
-      ← c .before .before .before .before .hear .ensures,
-      ← c .before .before .before .said-finished .ensures,
-      c .before .before .if1 .taken,
-      ← hash-row,
-      ← c .before .crypt-of .ensures,
+      ← c .before .before .before .before .before .before .before .before .hear .ensures,
+      ← c .before .before .before .before .before .before .before .said-by .ensures,
+      c .before .before .before .before .before .before .if1 .taken,
+      ← c .before .before .before .before .before .sealed .ensures,
+      lt-ltb 0 (c .before .before .before .before .before .sealed .result) (c .before .before .before .before .if2 .taken),
+      ← c .before .before .before .crypt-of .ensures,
+      ← c .before .before .answered .ensures,
+      c .before .if3 .taken,
     )
-    (c .answered .ensures)
+    (rw (← c .before .before .before .before .before .before .before .said-by .ensures, c .before .before .before .before .before .before .if1 .taken) at (c .said-finished .ensures))
 
 returns-2 : tie.Need-returns-2
 returns-2 c =
     rw (
-      ← c .before .before .hear .ensures,
-      ← c .before .said-finished .ensures,
-      c .if1 .left,
+      ← c .before .before .before .before .before .before .before .hear .ensures,
+      ← c .before .before .before .before .before .before .said-by .ensures,
+      c .before .before .before .before .before .if1 .taken,
+      ← c .before .before .before .before .sealed .ensures,
+      lt-ltb 0 (c .before .before .before .before .sealed .result) (c .before .before .before .if2 .taken),
+      ← c .before .before .crypt-of .ensures,
+      ← c .before .answered .ensures,
+      c .if3 .left,
     )
     refl
+
+returns-3 : tie.Need-returns-3
+returns-3 c =
+    rw (
+      ← c .before .before .before .before .hear .ensures,
+      ← c .before .before .before .said-by .ensures,
+      c .before .before .if1 .taken,
+      ← c .before .sealed .ensures,
+      le-ltb 0 (c .before .sealed .result) (c .if2 .left),
+    )
+    refl
+
+returns-4 : tie.Need-returns-4
+returns-4 c = rw (← c .before .before .hear .ensures, ← c .before .said-by .ensures, c .if1 .left) refl
 
 pub agreed-at-spec : {M : Type 1} → statement M
 agreed-at-spec =
@@ -34,5 +56,9 @@ agreed-at-spec =
     (λ c κs. search needs)
     (λ c κs. search needs)
     (λ c κs. search needs)
+    (λ c κs. search needs)
+    (λ c κs. search needs)
     returns
-    returns-2)
+    returns-2
+    returns-3
+    returns-4)

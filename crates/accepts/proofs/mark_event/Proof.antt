@@ -1,17 +1,35 @@
--- `accepts::mark_event` meets its contract: the test says whether the event's hash is marked.
+-- `accepts::mark_event` meets its contract: the tests say whether a hash is marked.
 -- Assumes nothing.
 use mathlib.Core.Path.{refl}
+use borrow.Author.Tests.{lt-ltb, le-ltb}
 use borrow.Author.Needs.{needs}
-use Rattle.forms.proofs.Keyed.{hash-row}
 use Rattle.accepts.proofs.mark_event.Statement.{statement}
 use Rattle.accepts.proofs.mark_event.Tie as tie
 
 returns : tie.Need-returns
 returns c =
-    rw (← c .before .before .before .before .before .hear .ensures, ← c .before .before .before .before .told-here .ensures, c .before .before .before .if1 .taken, ← hash-row, ← c .before .before .crypt-of .ensures) (c .mark-row .ensures)
+    rw (
+      ← c .before .before .before .before .before .before .hear .ensures,
+      ← c .before .before .before .before .before .said-to .ensures,
+      c .before .before .before .if1 .taken,
+      ← c .before .before .before .before .sealed .ensures,
+      lt-ltb 0 (c .before .before .before .before .sealed .result) (c .before .before .if2 .taken),
+    )
+    (c .mark-row .ensures)
 
 returns-2 : tie.Need-returns-2
-returns-2 c = rw (← c .before .before .hear .ensures, ← c .before .told-here .ensures, c .if1 .left) refl
+returns-2 c =
+    rw (
+      ← c .before .before .before .before .hear .ensures,
+      ← c .before .before .before .said-to .ensures,
+      c .before .if1 .taken,
+      ← c .before .before .sealed .ensures,
+      le-ltb 0 (c .before .before .sealed .result) (c .if2 .left),
+    )
+    refl
+
+returns-3 : tie.Need-returns-3
+returns-3 c = rw (← c .before .before .before .hear .ensures, ← c .before .before .said-to .ensures, c .if1 .left) refl
 
 pub mark-event-spec : {M : Type 1} → statement M
 mark-event-spec =
@@ -20,6 +38,8 @@ mark-event-spec =
     (λ c κs. search needs)
     (λ c κs. search needs)
     (λ c κs. search needs)
+    (λ c. search needs)
     (λ c κs. search needs)
     returns
-    returns-2)
+    returns-2
+    returns-3)

@@ -13,7 +13,7 @@ use Rattle.accepts.proofs.mark_told.Tie as tie
 
 abbrev Inv-loop : tie.InvT-loop
 Inv-loop file boxes marks₀ server to link₀ marks link =
-    markAll file server to (chainFrom boxes link) marks ≡ markAll file server to (chainFrom boxes (latestTo boxes to)) marks₀
+    markAll file boxes server to (chainFrom boxes link) marks ≡ markAll file boxes server to (chainFrom boxes (latestTo boxes to)) marks₀
 
 abbrev μ-loop : tie.MeasureT-loop
 μ-loop file boxes marks₀ server to link₀ marks link = link

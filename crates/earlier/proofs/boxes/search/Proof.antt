@@ -24,14 +24,14 @@ returns c =
     let a = c .before .before .before .before .before .args in
     let l = c .before .before .before .loop in
     sym
-    (sym (l .inv) ∙ some-step (now (a .boxes)) (λ (j : ℕ). fitsIn (now (a .file)) (a .wanted) (heardAt (now (a .file)) j)) (l .link) (c .before .before .loop-test .taken) ∙
+    (sym (l .inv) ∙ some-step (now (a .boxes)) (λ (j : ℕ). fitsIn (now (a .file)) (a .wanted) (heardAt (now (a .file)) j)) (l .link) (omega (arith, c .before .before .loop-test .taken)) ∙
     rw (sym (c .before .fits2 .ensures) ∙ c .if1 .taken) refl)
 
 loop-less : tie.Need-loop-less Inv-loop μ-loop
 loop-less c =
     let a = c .before .before .before .before .before .before .args in
     let l = c .before .before .before .before .loop in
-    rw (c .next .ensures) (next-falls (now (a .boxes)) (l .link) (c .before .before .before .loop-test .taken))
+    rw (c .next .ensures) (next-falls (now (a .boxes)) (l .link) (omega (arith, c .before .before .before .loop-test .taken)))
 
 loop-again : tie.Need-loop-again Inv-loop μ-loop
 loop-again c =
@@ -39,7 +39,7 @@ loop-again c =
     let l = c .before .before .before .before .loop in
     rw (c .next .ensures)
     (sym
-    (some-step (now (a .boxes)) (λ (j : ℕ). fitsIn (now (a .file)) (a .wanted) (heardAt (now (a .file)) j)) (l .link) (c .before .before .before .loop-test .taken) ∙
+    (some-step (now (a .boxes)) (λ (j : ℕ). fitsIn (now (a .file)) (a .wanted) (heardAt (now (a .file)) j)) (l .link) (omega (arith, c .before .before .before .loop-test .taken)) ∙
     rw (sym (c .before .before .fits2 .ensures) ∙ c .before .if1 .left) refl) ∙
     l .inv)
 
