@@ -20,7 +20,8 @@ use Rattle.forms.proofs.Keyed.{hash-row}
 use Rattle.earlier.specs.declared.Heard.{Heard}
 use Rattle.earlier.specs.Earlier.{heardAt, saidTo, saidBy}
 use Rattle.earlier.specs.Boxes.{latestTo, next, chainFrom, some, sealMark, sealAt, Boxed}
-use Rattle.earlier.proofs.Chains.{Below, none, more, chain-step, chain-end, chain-below, some-same, said-box, by-box, chain-any}
+use Rattle.earlier.proofs.Chains.{Below, none, more, chain-step, chain-end, chain-below, some-same}
+use Rattle.earlier.proofs.Finding.{said-box, by-box, chain-any}
 use Rattle.accepts.specs.Tests.{saidFinished, toldFinished, bothFinished}
 use Rattle.accepts.specs.Hashes.{toldHere, markEvent, markAll, answeredIn, agreedIn, bothIn}
 use Rattle.accepts.proofs.Branches.{or-true, or-false, or-assoc, and-true, and-false, hash-last}

@@ -2,3 +2,5 @@ pub mod Meant
 pub mod Premises
 pub mod Gates
 pub mod Chains
+pub mod Keeping
+pub mod Finding

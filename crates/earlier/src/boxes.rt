@@ -1,9 +1,10 @@
 // Earlier events by their boxes, so that a search looks only where its event can lie.
 //
 // An event lies in the box of its receiver, and a note in one of its agent's own. The array has 128 boxes, 512
-// events, 1,024 slots, and the hash of each event's Finished, the client's and the server's. A box leads to its latest event, an event to the one before it in its box, and a slot to
-// the last event that was kept there: by one more than the event's number, or 0 for none. An event that equals the one
-// at its slot is not kept again, so that repeats cost nothing.
+// events, 1,024 slots, and for each event the hash of its Finished, the client's and the server's. A box leads to
+// its latest event, an event to the one before it in its box, and a slot to the last event that was kept there: by
+// one more than the event's number, or 0 for none. An event that equals the one at its slot is not kept again, so
+// that repeats cost nothing.
 use super::Heard;
 use super::Wanted;
 use super::fits;
@@ -118,6 +119,7 @@ pub fn search_all(file: &[u8], boxes: &[u16; 2688], wanted: Wanted) -> bool
     false
 }
 
+// Odd factors spread the events of a usual file over all slots.
 fn slot_of(h: Heard) -> usize
     ensures { λ s. ⌜ (s ≡ slotOf h) × (s < 1024) ⌝ }
 {
@@ -170,7 +172,7 @@ pub fn sealed(boxes: &[u16; 2688], server: bool, e: u16) -> u16
     }
 }
 
-// Event e is put into its box, unless its slot leads to one that equals it.
+// Event e, which is h, is put into its box, unless its slot leads to one that equals it.
 fn box_event(file: &[u8], boxes: &mut [u16; 2688], e: u16, h: Heard)
     requires { ⌜ e < 512 ⌝ }
     requires { ⌜ h ≡ heardAt (now file) e ⌝ }

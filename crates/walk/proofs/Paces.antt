@@ -19,7 +19,8 @@ use Rattle.earlier.specs.declared.Heard.{Heard}
 use Rattle.earlier.specs.declared.Wanted.{Wanted}
 use Rattle.earlier.specs.Earlier.{heardAt, past}
 use Rattle.earlier.specs.Boxes.{found, keptIn, Boxed}
-use Rattle.earlier.proofs.Chains.{keep-boxed, found-past}
+use Rattle.earlier.proofs.Keeping.{keep-boxed}
+use Rattle.earlier.proofs.Finding.{found-past}
 use Rattle.accepts.specs.Hashes.{bothIn}
 use Rattle.accepts.proofs.Hashes.{both-past}
 use Rattle.rules.specs.Tests.{keyExchange}

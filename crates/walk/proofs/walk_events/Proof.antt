@@ -5,7 +5,7 @@ use mathlib.Core.Path.{_≡_, refl, sym, ap, _∙_}
 use native.Mathlib.Omega.{arith}
 use denote.Ref.{now}
 use lib.ListN.{length}
-use Rattle.earlier.proofs.Chains.{none-boxed}
+use Rattle.earlier.proofs.Keeping.{none-boxed}
 use Rattle.rules.specs.Making.{SoundMarks}
 use Rattle.rules.proofs.Carried.{none-sound}
 use Rattle.walk.specs.Walk.{walk}

@@ -2,7 +2,7 @@
 -- Assumes nothing.
 use denote.Ref.{now}
 use borrow.Author.Needs.{needs}
-use Rattle.earlier.proofs.Chains.{box-new, box-old}
+use Rattle.earlier.proofs.Keeping.{box-new, box-old}
 use Rattle.earlier.proofs.boxes.box_event.Statement.{statement}
 use Rattle.earlier.proofs.boxes.box_event.Tie as tie
 

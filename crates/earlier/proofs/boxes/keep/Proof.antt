@@ -4,7 +4,7 @@ use mathlib.Core.Path.{refl}
 use denote.Ref.{now}
 use borrow.Author.Tests.{le-ltb}
 use borrow.Author.Needs.{needs}
-use Rattle.earlier.proofs.Chains.{keep-writes}
+use Rattle.earlier.proofs.Keeping.{keep-writes}
 use Rattle.earlier.proofs.boxes.keep.Statement.{statement}
 use Rattle.earlier.proofs.boxes.keep.Tie as tie
 

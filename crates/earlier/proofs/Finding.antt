@@ -1,0 +1,138 @@
+-- What is looked for in its box, or in all, is found exactly when it happened.
+-- Assumes nothing.
+use Prim.Native.Nat.{ℕ, _+_, _-_, _%_, _<_, _≤_}
+use mathlib.Core.Bool.{Bool, true, false, not, _&&_, true≢false}
+use mathlib.Core.List.{List}
+use mathlib.Core.Logic.{_⊎_, inl, inr}
+use mathlib.Core.Path.{_≡_, refl, sym, _∙_, ap}
+use native.Mathlib.Omega.{arith}
+use native.Mathlib.Nat.{mod-lt}
+use native.Mathlib.Decide.{decLt}
+use lib.Dec.{eqb}
+use lib.ListN.{getD}
+use borrow.Author.Tests.{eqb-true, lt-ltb, le-ltb}
+use Rattle.trace.specs.First.{any}
+use Rattle.trace.proofs.First.{any-none, any-some, any-inv, bool-cases}
+use Rattle.trace.proofs.Both.{both, both3, refuted}
+use Rattle.earlier.specs.declared.Heard.{Heard}
+use Rattle.earlier.specs.declared.Wanted.{Wanted}
+use Rattle.earlier.specs.declared.Wanted.the-variants.{HelloFor, HelloBy, HelloTo, ReplyWith, ReplyTo, ReplyBy, Cert, Secret, Sent, Session, Under}
+use Rattle.earlier.specs.Earlier.{heardAt, saidTo, saidBy, notedBy, fitsIn, earlier, past}
+use Rattle.earlier.specs.Boxes.{boxOf, boxFor, chainFrom, some, found, Reach, Linked}
+use Rattle.earlier.proofs.Chains.{some-below, some-reach}
+
+-- a box has what happened
+pub chain-any : (file boxes : List ℕ) (e : ℕ) → Linked file boxes e → (p : Heard → Bool) (b : ℕ) → b < 128 →
+    ((h : Heard) → p h ≡ true → boxOf h ≡ b) →
+    some (λ j. p (heardAt file j)) (chainFrom boxes (getD boxes b 0)) ≡ any (λ j. p (heardAt file j)) e
+chain-any file boxes e x p b l box = go (bool-cases (some (λ j. p (heardAt file j)) (chainFrom boxes (getD boxes b 0))))
+  where
+    unseen : some (λ j. p (heardAt file j)) (chainFrom boxes (getD boxes b 0)) ≡ false → (j : ℕ) → j < e → p (heardAt file j) ≡ true → ⊥
+    unseen f j m t =
+        let k = x .kept j m in
+        let r : Reach boxes (getD boxes b 0) (k .0) = rw (box (heardAt file j) t) at (k .1) in
+        true≢false (sym (some-reach boxes (λ (i : ℕ). p (heardAt file i)) (x .falls) (getD boxes b 0) (k .0) (omega (arith, x .few, x .low b l)) (ap p (k .2) ∙ t) r) ∙ f)
+
+    go : (some (λ j. p (heardAt file j)) (chainFrom boxes (getD boxes b 0)) ≡ true) ⊎
+        (some (λ j. p (heardAt file j)) (chainFrom boxes (getD boxes b 0)) ≡ false) →
+        some (λ j. p (heardAt file j)) (chainFrom boxes (getD boxes b 0)) ≡ any (λ j. p (heardAt file j)) e
+    go (inl t) =
+        let h = some-below boxes (λ (i : ℕ). p (heardAt file i)) (getD boxes b 0) t in
+        t ∙ sym (any-some (λ (i : ℕ). p (heardAt file i)) e (h .0) (omega (arith, h .1, x .low b l)) (h .2))
+    go (inr f) = f ∙ sym (any-none (λ (i : ℕ). p (heardAt file i)) e (λ j m. refuted _ (unseen f j m)))
+
+pub said-box : (h : Heard) (to : ℕ) → saidTo h to ≡ true → boxOf h ≡ to % 64
+said-box h to t =
+    let x = both (h .says) (eqb (h .to) to) t in
+    rw (x .0, eqb-true (h .to) to (x .1)) refl
+
+pub by-box : (h : Heard) (from to : ℕ) → saidBy h from to ≡ true → boxOf h ≡ to % 64
+by-box h from to t =
+    let x = both3 (h .says) (eqb (h .from) from) (eqb (h .to) to) t in
+    rw (x .0, eqb-true (h .to) to (x .2)) refl
+
+noted-box : (h : Heard) (from : ℕ) → notedBy h from ≡ true → boxOf h ≡ 64 + from % 64
+noted-box h from t =
+    let x = both (not (h .says)) (eqb (h .from) from) t in
+    rw (unsaid (h .says) (x .0), eqb-true (h .from) from (x .1)) refl
+  where
+    unsaid : (b : Bool) → not b ≡ true → b ≡ false
+    unsaid true t = sym t
+    unsaid false t = refl
+
+-- what fits lies in the box of what is wanted
+fits-box : (file : List ℕ) (wanted : Wanted) (h : Heard) → boxFor wanted < 128 → fitsIn file wanted h ≡ true → boxOf h ≡ boxFor wanted
+fits-box file (HelloFor to agent sid) h l t = said-box h to (both (saidTo h to) _ t .0)
+fits-box file (HelloBy from to na sid pa) h l t = by-box h from to (both (saidBy h from to) _ t .0)
+fits-box file (HelloTo to agent na sid pa) h l t = said-box h to (both (saidTo h to) _ t .0)
+fits-box file (ReplyWith to nb) h l t = said-box h to (both (saidTo h to) _ t .0)
+fits-box file (ReplyTo to nb sid pb) h l t = said-box h to (both (saidTo h to) _ t .0)
+fits-box file (ReplyBy from to nb sid pb) h l t = by-box h from to (both (saidBy h from to) _ t .0)
+fits-box file (Cert to agent key) h l t = said-box h to (both (saidTo h to) _ t .0)
+fits-box file (Secret from agent secret) h l t = noted-box h from (both (notedBy h from) _ t .0)
+fits-box file (Sent to secret) h l t = said-box h to (both (saidTo h to) _ t .0)
+fits-box file (Session from sid a b m) h l t = noted-box h from (both (notedBy h from) _ t .0)
+fits-box file (Under from key) h l t = absurd (omega arith)
+
+-- the boxes of what is said have all that was said
+any-box : (file boxes : List ℕ) (e : ℕ) → Linked file boxes e → (p : Heard → Bool) → ((h : Heard) → p h ≡ true → h .says ≡ true) →
+    any (λ b. some (λ j. p (heardAt file j)) (chainFrom boxes (getD boxes b 0))) 64 ≡ any (λ j. p (heardAt file j)) e
+any-box file boxes e x p says = go (bool-cases (any (λ b. some (λ j. p (heardAt file j)) (chainFrom boxes (getD boxes b 0))) 64))
+  where
+    in-box : (j : ℕ) → p (heardAt file j) ≡ true → boxOf (heardAt file j) < 64
+    in-box j t =
+        let m : heardAt file j .to % 64 < 64 = mod-lt (heardAt file j .to) (omega arith) in
+        rw (says (heardAt file j) t) m
+
+    unseen : any (λ b. some (λ j. p (heardAt file j)) (chainFrom boxes (getD boxes b 0))) 64 ≡ false → (j : ℕ) → j < e →
+        p (heardAt file j) ≡ true → ⊥
+    unseen f j m t =
+        let k = x .kept j m in
+        let b = boxOf (heardAt file j) in
+        let l : b < 64 = in-box j t in
+        let r = some-reach boxes (λ (i : ℕ). p (heardAt file i)) (x .falls) (getD boxes b 0) (k .0) (omega (arith, x .few, x .low b (omega (arith, l)))) (ap p (k .2) ∙ t) (k .1) in
+        true≢false (sym (any-some (λ (c : ℕ). some (λ i. p (heardAt file i)) (chainFrom boxes (getD boxes c 0))) 64 b l r) ∙ f)
+
+    go : (any (λ b. some (λ j. p (heardAt file j)) (chainFrom boxes (getD boxes b 0))) 64 ≡ true) ⊎
+        (any (λ b. some (λ j. p (heardAt file j)) (chainFrom boxes (getD boxes b 0))) 64 ≡ false) →
+        any (λ b. some (λ j. p (heardAt file j)) (chainFrom boxes (getD boxes b 0))) 64 ≡ any (λ j. p (heardAt file j)) e
+    go (inl t) =
+        let b = any-inv (λ (c : ℕ). some (λ i. p (heardAt file i)) (chainFrom boxes (getD boxes c 0))) 64 t in
+        let h = some-below boxes (λ (i : ℕ). p (heardAt file i)) (getD boxes (b .0) 0) (b .2) in
+        t ∙ sym (any-some (λ (i : ℕ). p (heardAt file i)) e (h .0) (omega (arith, h .1, x .low (b .0) (omega (arith, b .1)))) (h .2))
+    go (inr f) = f ∙ sym (any-none (λ (i : ℕ). p (heardAt file i)) e (λ j m. refuted _ (unseen f j m)))
+
+near : (a : ℕ) {A : Type 0} → 128 ≤ a % 64 → A
+near a l = let m : a % 64 < 64 = mod-lt a (omega arith) in absurd (omega (arith, m))
+
+noted-near : (a : ℕ) {A : Type 0} → 128 ≤ 64 + a % 64 → A
+noted-near a l = let m : a % 64 < 64 = mod-lt a (omega arith) in absurd (omega (arith, m))
+
+-- what has no box of its own is said
+far-said : (file : List ℕ) (wanted : Wanted) (h : Heard) → 128 ≤ boxFor wanted → fitsIn file wanted h ≡ true → h .says ≡ true
+far-said file (HelloFor to agent sid) h l t = near to l
+far-said file (HelloBy from to na sid pa) h l t = near to l
+far-said file (HelloTo to agent na sid pa) h l t = near to l
+far-said file (ReplyWith to nb) h l t = near to l
+far-said file (ReplyTo to nb sid pb) h l t = near to l
+far-said file (ReplyBy from to nb sid pb) h l t = near to l
+far-said file (Cert to agent key) h l t = near to l
+far-said file (Secret from agent secret) h l t = noted-near from l
+far-said file (Sent to secret) h l t = near to l
+far-said file (Session from sid a b m) h l t = noted-near from l
+far-said file (Under from key) h l t = both (h .says) (eqb (h .from) from) (both (h .says && eqb (h .from) from) _ t .0) .0
+
+found-earlier : (file boxes : List ℕ) (e : ℕ) → Linked file boxes e → (wanted : Wanted) → found file boxes wanted ≡ past file e wanted
+unfolding earlier
+found-earlier file boxes e x wanted = go (decLt (boxFor wanted) 128)
+  where
+    go : Dec (boxFor wanted < 128) → found file boxes wanted ≡ past file e wanted
+    go (yes l) =
+        rw (lt-ltb (boxFor wanted) 128 l)
+        (chain-any file boxes e x (fitsIn file wanted) (boxFor wanted) l (λ h. fits-box file wanted h l))
+    go (no l) =
+        rw (le-ltb (boxFor wanted) 128 (omega arith))
+        (any-box file boxes e x (fitsIn file wanted) (λ h. far-said file wanted h (omega arith)))
+
+pub found-past : (file boxes : List ℕ) (e : ℕ) → Linked file boxes e → found file boxes ≡ past file e
+found-past file boxes e x = λ i wanted. found-earlier file boxes e x wanted i

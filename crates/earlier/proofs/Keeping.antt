@@ -1,0 +1,329 @@
+-- One event more is kept: the others stay in their boxes, and so do the hashes of their Finished.
+-- Assumes nothing.
+use Prim.Native.Nat.{ℕ, zero, suc, _+_, _-_, _%_, _<_, _≤_}
+use mathlib.Core.Bool.{Bool, true, false, not, _&&_, _||_, true≢false}
+use mathlib.Core.List.{List}
+use mathlib.Core.Logic.{_⊎_, inl, inr, ⊎-elim}
+use mathlib.Core.Path.{_≡_, refl, sym, _∙_, ap}
+use native.Mathlib.Omega.{arith}
+use native.Mathlib.Nat.{mod-lt}
+use native.Mathlib.Decide.{ℕ-discrete}
+use native.Mathlib.Numerals.{add-one}
+use lib.Dec.{eqb, ltb}
+use lib.ListN.{getD, set, length, length-set, replicate, length-replicate}
+use lib.Seq.{getD-set-same, getD-set-other}
+use borrow.Author.Tests.{eqb-true, lt-ltb, ltb-true}
+use Rattle.trace.specs.Rows.{choose}
+use Rattle.trace.proofs.First.{lt-suc, bool-cases}
+use Rattle.trace.proofs.Both.{both3, both4}
+use Rattle.earlier.specs.declared.Heard.{Heard}
+use Rattle.earlier.specs.Earlier.{heardAt, sameHeard}
+use Rattle.earlier.specs.Boxes.{boxOf, behind, found, slotOf, isAgain, sealMark, sealAt, boxedIn, sealedIn, keptIn, Reach, here, further, Linked, Boxed}
+
+-- every box is one of the 128
+pub box-room : (h : Heard) → boxOf h < 128
+box-room h = go (h .says)
+  where
+    go : (b : Bool) → choose b (h .to % 64) (64 + h .from % 64) < 128
+    go true = let m : h .to % 64 < 64 = mod-lt (h .to) (omega arith) in omega (arith, m)
+    go false = let m : h .from % 64 < 64 = mod-lt (h .from) (omega arith) in omega (arith, m)
+
+both-or-none : (a b : Bool) → ((a && b) || (not a && not b)) ≡ true → a ≡ b
+both-or-none true true t = refl
+both-or-none true false t = absurd (true≢false (sym t))
+both-or-none false true t = absurd (true≢false (sym t))
+both-or-none false false t = refl
+
+same-heard : (h g : Heard) → sameHeard h g ≡ true → h ≡ g
+same-heard h g t =
+    let says = (h .says && g .says) || (not (h .says) && not (g .says)) in
+    let x = both4 says (eqb (h .from) (g .from)) (eqb (h .to) (g .to)) (eqb (h .row) (g .row)) t in
+    let ps : h .says ≡ g .says = both-or-none _ _ (x .0) in
+    let pf : h .from ≡ g .from = eqb-true _ _ (x .1) in
+    let pt : h .to ≡ g .to = eqb-true _ _ (x .2) in
+    let pr : h .row ≡ g .row = eqb-true _ _ (x .3) in
+    λ i. record { says = ps i; from = pf i; to = pt i; row = pr i }
+
+zeros : (n i : ℕ) → _≡_ {A = ℕ} (getD (replicate n 0) i 0) 0
+zeros zero i = refl
+zeros (suc n) zero = refl
+zeros (suc n) (suc i) = zeros n i
+
+none-linked : (file : List ℕ) → Linked file (replicate 2688 0) 0
+none-linked file =
+    record {
+      room = length-replicate {A = ℕ} 2688 0;
+      few = omega arith;
+      falls = λ e l. rw (zeros 2688 (128 + e)) (omega arith);
+      low = λ b l. rw (zeros 2688 b) (omega arith);
+      kept = λ j l. absurd (omega arith);
+    }
+
+pub none-boxed : (file : List ℕ) → Boxed file (replicate 2688 0) 0
+none-boxed file = record { links = none-linked file; seals = λ server j l. absurd (omega arith) }
+
+-- event e, with those before it in their boxes
+module _ (file boxes : List ℕ) (e : ℕ) (x : Linked file boxes e) (few : e < 512) where
+  abbrev b : ℕ
+  b = boxOf (heardAt file e)
+
+  abbrev head : ℕ
+  head = getD boxes b 0
+
+  head-low : head ≤ e
+  head-low = x .low b (box-room (heardAt file e))
+
+  abbrev slot : ℕ
+  slot = 640 + slotOf (heardAt file e)
+
+  slot-room : slot < 1664
+  slot-room =
+      let m : slotOf (heardAt file e) < 1024 = mod-lt _ (omega arith) in
+      omega (arith, m)
+
+  kept-same : (s : ℕ) → s < e → heardAt file s ≡ heardAt file e → (t : ℕ) × Reach boxes head t × (heardAt file t ≡ heardAt file e)
+  kept-same s l q =
+      let k = x .kept s l in
+      (k .0, rw q at (k .1), k .2 ∙ q)
+
+  -- one that equals it is there
+  again-linked : isAgain file e (getD boxes slot 0) (heardAt file e) ≡ true → Linked file boxes (suc e)
+  again-linked t =
+      record {
+        room = x .room;
+        few = omega arith;
+        falls = x .falls;
+        low = λ k l. omega (arith, x .low k l);
+        kept = λ j l. ⊎-elim (λ (l′ : j < e). x .kept j l′) (λ (q : j ≡ e). rw q equal) (lt-suc j e l);
+      }
+    where
+      link : ℕ
+      link = getD boxes slot 0
+
+      parts : (ltb 0 link ≡ true) × (ltb link (e + 1) ≡ true) × (sameHeard (heardAt file (link - 1)) (heardAt file e) ≡ true)
+      parts = both3 (ltb 0 link) (ltb link (e + 1)) (sameHeard (heardAt file (link - 1)) (heardAt file e)) t
+
+      same : heardAt file (link - 1) ≡ heardAt file e
+      same = same-heard _ _ (parts .2)
+
+      earlier-one : link - 1 < e
+      earlier-one = omega (arith, ltb-true 0 link (parts .0), ltb-true link (e + 1) (parts .1))
+
+      equal : (s : ℕ) × Reach boxes head s × (heardAt file s ≡ heardAt file e)
+      equal = kept-same (link - 1) earlier-one same
+
+  -- it is put in front of its box
+  abbrev longer : List ℕ
+  longer = set boxes (128 + e) head
+
+  abbrev headed : List ℕ
+  headed = set longer b (e + 1)
+
+  abbrev boxes′ : List ℕ
+  boxes′ = set headed slot (e + 1)
+
+  -- the slots lie behind
+  unslotted : (k : ℕ) → k < 640 → getD boxes′ k 0 ≡ getD headed k 0
+  unslotted k l = getD-set-other headed slot k (e + 1) 0 (λ q. omega arith)
+
+  new-head : getD boxes′ b 0 ≡ suc e
+  new-head =
+      unslotted b (omega (arith, box-room (heardAt file e))) ∙
+      getD-set-same longer b (e + 1) 0 (omega (arith, box-room (heardAt file e), length-set boxes (128 + e) head, x .room)) ∙ add-one e
+
+  other-head : (k : ℕ) → k < 128 → ¬ (k ≡ b) → getD boxes′ k 0 ≡ getD boxes k 0
+  other-head k l n =
+      unslotted k (omega arith) ∙ getD-set-other longer b k (e + 1) 0 n ∙ getD-set-other boxes (128 + e) k head 0 (λ q. omega arith)
+
+  behind-kept : (j : ℕ) → j < 512 → behind boxes′ j ≡ behind longer j
+  behind-kept j l =
+      unslotted (128 + j) (omega arith) ∙ getD-set-other longer b (128 + j) (e + 1) 0 (λ q. omega (arith, box-room (heardAt file e)))
+
+  behind-new : behind boxes′ e ≡ head
+  behind-new = behind-kept e few ∙ getD-set-same boxes (128 + e) head 0 (omega (arith, x .room))
+
+  behind-other : (j : ℕ) → j < 512 → ¬ (j ≡ e) → behind boxes′ j ≡ behind boxes j
+  behind-other j l n = behind-kept j l ∙ getD-set-other boxes (128 + e) (128 + j) head 0 (λ q. n (omega arith))
+
+  falls′ : (j : ℕ) → j < 512 → Dec (j ≡ e) → behind boxes′ j ≤ j
+  falls′ j l (yes q) = rw (q, behind-new) head-low
+  falls′ j l (no n) = rw (behind-other j l n) (x .falls j l)
+
+  low′ : (k : ℕ) → k < 128 → Dec (k ≡ b) → getD boxes′ k 0 ≤ suc e
+  low′ k l (yes q) = rw (q, new-head) (omega arith)
+  low′ k l (no n) = rw (other-head k l n) (omega (arith, x .low k l))
+
+  reach-kept : (link s : ℕ) → link ≤ e → Reach boxes link s → Reach boxes′ link s
+  reach-kept link s l (here q) = here q
+  reach-kept link s l (further p r) =
+      let kept : behind boxes′ (link - 1) ≡ behind boxes (link - 1) = behind-other (link - 1) (omega arith) (λ q. omega arith) in
+      further {s = s} p (rw kept (reach-kept (behind boxes (link - 1)) s (omega (arith, x .falls (link - 1) (omega arith))) r))
+
+  old-reach : (k s : ℕ) → k < 128 → Reach boxes (getD boxes k 0) s → Dec (k ≡ b) → Reach boxes′ (getD boxes′ k 0) s
+  old-reach k s l r (yes q) =
+      let r′ : Reach boxes head s = rw q at r in
+      let q′ : suc e - 1 ≡ e = omega arith in
+      let back : behind boxes′ (suc e - 1) ≡ head = rw q′ behind-new in
+      rw (q, new-head) (further {link = suc e} {s = s} (omega arith) (rw back (reach-kept head s head-low r′)))
+  old-reach k s l r (no n) = rw (other-head k l n) (reach-kept (getD boxes k 0) s (x .low k l) r)
+
+  old-kept : (j : ℕ) → j < e → (s : ℕ) × Reach boxes′ (getD boxes′ (boxOf (heardAt file j)) 0) s × (heardAt file s ≡ heardAt file j)
+  old-kept j l =
+      let k = x .kept j l in
+      let j-box = boxOf (heardAt file j) in
+      (k .0, old-reach j-box (k .0) (box-room (heardAt file j)) (k .1) (ℕ-discrete j-box b), k .2)
+
+  new-kept : (s : ℕ) × Reach boxes′ (getD boxes′ b 0) s × (heardAt file s ≡ heardAt file e)
+  new-kept = (e, rw new-head (here refl), refl)
+
+  more-linked : Linked file boxes′ (suc e)
+  more-linked =
+      record {
+        room = length-set headed slot (e + 1) ∙ length-set longer b (e + 1) ∙ length-set boxes (128 + e) head ∙ x .room;
+        few = omega arith;
+        falls = λ j l. falls′ j l (ℕ-discrete j e);
+        low = λ k l. low′ k l (ℕ-discrete k b);
+        kept = λ j l. ⊎-elim (λ (l′ : j < e). old-kept j l′) (λ (q : j ≡ e). rw q new-kept) (lt-suc j e l);
+      }
+
+  boxed-linked : Linked file (boxedIn file boxes e) (suc e)
+  boxed-linked = go (bool-cases (isAgain file e (getD boxes slot 0) (heardAt file e)))
+    where
+      go : (isAgain file e (getD boxes slot 0) (heardAt file e) ≡ true) ⊎ (isAgain file e (getD boxes slot 0) (heardAt file e) ≡ false) →
+          Linked file (boxedIn file boxes e) (suc e)
+      go (inl t) = rw t (again-linked t)
+      go (inr f) = rw f more-linked
+
+  -- what lies behind the slots stays
+  boxed-far : (k : ℕ) → 1664 ≤ k → getD (boxedIn file boxes e) k 0 ≡ getD boxes k 0
+  boxed-far k l = go (isAgain file e (getD boxes slot 0) (heardAt file e))
+    where
+      go : (again : Bool) → getD (choose (not again) boxes′ boxes) k 0 ≡ getD boxes k 0
+      go true = refl
+      go false =
+          getD-set-other headed slot k (e + 1) 0 (λ q. omega (arith, slot-room)) ∙
+          getD-set-other longer b k (e + 1) 0 (λ q. omega (arith, box-room (heardAt file e))) ∙
+          getD-set-other boxes (128 + e) k head 0 (λ q. omega arith)
+
+-- a store behind the boxes and events leaves the links
+module _ (file boxes : List ℕ) (n at v : ℕ) (far : 640 ≤ at) (x : Linked file boxes n) where
+  abbrev stored : List ℕ
+  stored = set boxes at v
+
+  near-same : (k : ℕ) → k < 640 → getD stored k 0 ≡ getD boxes k 0
+  near-same k l = getD-set-other boxes at k v 0 (λ q. omega arith)
+
+  reach-stored : (link s : ℕ) → link ≤ 512 → Reach boxes link s → Reach stored link s
+  reach-stored link s l (here q) = here q
+  reach-stored link s l (further p r) =
+      let same : behind stored (link - 1) ≡ behind boxes (link - 1) = near-same (128 + (link - 1)) (omega arith) in
+      further {s = s} p (rw same (reach-stored (behind boxes (link - 1)) s (omega (arith, x .falls (link - 1) (omega arith))) r))
+
+  stored-linked : Linked file stored n
+  stored-linked =
+      record {
+        room = length-set boxes at v ∙ x .room;
+        few = x .few;
+        falls = λ j l. rw (near-same (128 + j) (omega arith)) (x .falls j l);
+        low = λ k l. rw (near-same k (omega arith)) (x .low k l);
+        kept = λ j l. moved j (x .kept j l);
+      }
+    where
+      moved : (j : ℕ) → (s : ℕ) × Reach boxes (getD boxes (boxOf (heardAt file j)) 0) s × (heardAt file s ≡ heardAt file j) →
+          (s : ℕ) × Reach stored (getD stored (boxOf (heardAt file j)) 0) s × (heardAt file s ≡ heardAt file j)
+      moved j (s, r, q) =
+          let l = box-room (heardAt file j) in (
+            s,
+            rw (near-same (boxOf (heardAt file j)) (omega (arith, l)))
+                (reach-stored (getD boxes (boxOf (heardAt file j)) 0) s (omega (arith, x .few, x .low (boxOf (heardAt file j)) l)) r),
+            q,
+          )
+
+module _ (file boxes : List ℕ) (e : ℕ) (x : Boxed file boxes e) (few : e < 512) where
+  abbrev linked : List ℕ
+  linked = boxedIn file boxes e
+
+  abbrev row : ℕ
+  row = heardAt file e .row
+
+  abbrev client : List ℕ
+  client = set linked (1664 + e) (sealMark file false row)
+
+  abbrev both-sides : List ℕ
+  both-sides = set client (2176 + e) (sealMark file true row)
+
+  links′ : Linked file both-sides (suc e)
+  links′ =
+      stored-linked file client (suc e) (2176 + e) (sealMark file true row) (omega arith)
+      (stored-linked file linked (suc e) (1664 + e) (sealMark file false row) (omega arith) (boxed-linked file boxes e (x .links) few))
+
+  room : length linked ≡ 2688
+  room = boxed-linked file boxes e (x .links) few .room
+
+  client-new : getD both-sides (1664 + e) 0 ≡ sealMark file false row
+  client-new =
+      getD-set-other client (2176 + e) (1664 + e) (sealMark file true row) 0 (λ q. omega arith) ∙
+      getD-set-same linked (1664 + e) (sealMark file false row) 0 (omega (arith, room))
+
+  server-new : getD both-sides (2176 + e) 0 ≡ sealMark file true row
+  server-new =
+      getD-set-same client (2176 + e) (sealMark file true row) 0
+      (omega (arith, room, length-set linked (1664 + e) (sealMark file false row)))
+
+  seal-old : (k : ℕ) → 1664 ≤ k → ¬ (k ≡ 1664 + e) → ¬ (k ≡ 2176 + e) → getD both-sides k 0 ≡ getD boxes k 0
+  seal-old k l n m =
+      getD-set-other client (2176 + e) k (sealMark file true row) 0 m ∙
+      getD-set-other linked (1664 + e) k (sealMark file false row) 0 n ∙
+      boxed-far file boxes e (x .links) few k l
+
+  seals′ : (server : Bool) (j : ℕ) → j < suc e → sealAt both-sides server j ≡ sealMark file server (heardAt file j .row)
+  seals′ server j l = rw (lt-ltb j 512 (omega arith)) (at server (lt-suc j e l))
+    where
+      old : (server : Bool) → j < e → getD boxes (choose server 2176 1664 + j) 0 ≡ sealMark file server (heardAt file j .row)
+      old server m = rw (lt-ltb j 512 (omega arith)) at (x .seals server j m)
+
+      at : (server : Bool) → (j < e) ⊎ (j ≡ e) → getD both-sides (choose server 2176 1664 + j) 0 ≡ sealMark file server (heardAt file j .row)
+      at true (inl m) = seal-old (2176 + j) (omega arith) (λ q. omega arith) (λ q. omega arith) ∙ old true m
+      at false (inl m) = seal-old (1664 + j) (omega arith) (λ q. omega arith) (λ q. omega arith) ∙ old false m
+      at true (inr q) = rw q server-new
+      at false (inr q) = rw q client-new
+
+  pub keep-boxed : Boxed file (keptIn file boxes e) (suc e)
+  keep-boxed = rw (lt-ltb e 512 few) (record { links = links′; seals = seals′ })
+
+-- what `box_event` leaves, by what it found
+module _ (file boxes : List ℕ) (e : ℕ) {h : Heard} (heard : h ≡ heardAt file e) {at slot : ℕ} (box : at ≡ boxOf h) (place : slot ≡ slotOf h)
+    {again : Bool} (test : again ≡ isAgain file e (getD boxes (640 + slot) 0) h) where
+  abbrev writtenAt : ℕ → ℕ → List ℕ
+  writtenAt at slot = set (set (set boxes (128 + e) (getD boxes at 0)) at (e + 1)) (640 + slot) (e + 1)
+
+  abbrev boxedBy : ℕ → ℕ → Bool → List ℕ
+  boxedBy at slot again = choose (not again) (writtenAt at slot) boxes
+
+  boxed-is : boxedBy at slot again ≡ boxedIn file boxes e
+  boxed-is =
+      let b : at ≡ boxOf (heardAt file e) = box ∙ ap boxOf heard in
+      let s : slot ≡ slotOf (heardAt file e) = place ∙ ap slotOf heard in
+      let a : again ≡ isAgain file e (getD boxes (640 + slotOf (heardAt file e)) 0) (heardAt file e) =
+      test ∙ (λ i. isAgain file e (getD boxes (640 + s i) 0) (heard i))
+      in
+      λ i. boxedBy (b i) (s i) (a i)
+
+  pub box-new : not again ≡ true → writtenAt at slot ≡ boxedIn file boxes e
+  box-new t =
+      let w : boxedBy at slot again ≡ writtenAt at slot = rw t refl in
+      sym w ∙ boxed-is
+
+  pub box-old : not again ≡ false → boxes ≡ boxedIn file boxes e
+  box-old t =
+      let w : boxedBy at slot again ≡ boxes = rw t refl in
+      sym w ∙ boxed-is
+
+pub keep-writes : (file boxes : List ℕ) (e : ℕ) {h : Heard} {linked : List ℕ} {client server : ℕ} → e < 512 → h ≡ heardAt file e →
+    linked ≡ boxedIn file boxes e → client ≡ sealMark file false (h .row) → server ≡ sealMark file true (h .row) →
+    set (set linked (1664 + e) client) (2176 + e) server ≡ keptIn file boxes e
+keep-writes file boxes e {h} {linked} {client} {server} l heard q c s =
+    let c′ : client ≡ sealMark file false (heardAt file e .row) = c ∙ (λ i. sealMark file false (heard i .row)) in
+    let s′ : server ≡ sealMark file true (heardAt file e .row) = s ∙ (λ i. sealMark file true (heard i .row)) in
+    let w : keptIn file boxes e ≡ sealedIn file (boxedIn file boxes e) e = rw (lt-ltb e 512 l) refl in
+    (λ i. set (set (q i) (1664 + e) (c′ i)) (2176 + e) (s′ i)) ∙ sym w
