@@ -15,7 +15,7 @@
  *     them during the call;
  *   - the buffer and the file share no byte;
  *   - a length is at most PTRDIFF_MAX. A pointer with length 0 is never followed;
- *   - the stack has room: no proof bounds it, and no file was seen to take 160 KiB (docs/DECISIONS.md, 30).
+ *   - the stack has room: no proof bounds it; the deepest file takes 108,008 bytes (docs/PERFORMANCE.md).
  * All else is proved for every file, every buffer and every n (crates/cabi): a call ends, stays within the bytes lent to
  * it, and returns the one number that its contract allows.
  */
