@@ -17,6 +17,7 @@ NUMBER, NONCE, PRF, SESSION, HASH, CRYPT, PAIR = 1, 2, 3, 6, 7, 8, 9
 SPY, CLIENT, SERVER = 0, 2, 3
 # what the rows of that handshake are
 NA, NB, SECRET, MASTER, SID, HELLO_END, REPLY_END, REST, SERVER_KEY = 0, 1, 2, 3, 4, 8, 11, 29, 34
+PA, CLIENT_ROW, SERVER_END = 5, 7, 24
 FINISHED, SERVER_FINISHED, ACCEPTED, RESUMED = 6, 7, 8, 13
 
 
@@ -83,6 +84,30 @@ def told():
     write("told_often", rows, filled(events0[:9] + learnt + junk, events0[ACCEPTED]), [SERVER])
 
 
+def losses():
+    # many sessions of a few nonces: each key is lost after all Finished were said
+    rows, opened, finished, lost = list(rows0), [], [], []
+    nas, rests = [], []
+    for i in range(11):
+        nas.append(add(rows, NONCE, 20000 + i))
+        opened.append(says(CLIENT, SERVER, add(rows, PAIR, CLIENT_ROW, add(rows, PAIR, nas[-1], HELLO_END))))
+        nb = add(rows, NONCE, 30000 + i)
+        opened.append(says(SERVER, CLIENT, add(rows, PAIR, nb, REPLY_END)))
+        rests.append((nb, add(rows, PAIR, PA, add(rows, PAIR, CLIENT_ROW, add(rows, PAIR, nb, SERVER_END)))))
+    for na in nas:
+        for nb, rest in rests:
+            if len(rows) + 8 > 1024 or len(events0) + len(opened) + len(finished) + len(lost) + 4 > 512:
+                break
+            text = add(rows, PAIR, SID, add(rows, PAIR, MASTER, add(rows, PAIR, na, rest)))
+            hash_row = add(rows, HASH, text)
+            for role, a, b in (0, CLIENT, SERVER), (1, SERVER, CLIENT):
+                rows.append(bytes([SESSION, role]) + struct.pack("<HHH", na, nb, MASTER))
+                key = len(rows) - 1
+                finished.append(says(a, b, add(rows, CRYPT, key, hash_row)))
+                lost.append(says(a, SPY, key))
+    write("keys_lost", rows, events0[:10] + opened + finished + lost)
+
+
 def bucket():
     rows, seen = [], set()
     for agent in range(64):
@@ -117,5 +142,6 @@ repeats()
 replies()
 hellos()
 told()
+losses()
 bucket()
 chain(505)
