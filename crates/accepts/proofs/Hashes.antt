@@ -19,7 +19,8 @@ use Rattle.closure.proofs.Marks.{mark-same, mark-other, mark-room, none-marked}
 use Rattle.forms.proofs.Keyed.{hash-row}
 use Rattle.earlier.specs.declared.Heard.{Heard}
 use Rattle.earlier.specs.Earlier.{heardAt, saidTo, saidBy}
-use Rattle.earlier.specs.Boxes.{latestTo, next, chainFrom, some, sealMark, sealAt, Boxed}
+use Rattle.earlier.specs.Boxes.{latestTo, next, chainFrom, some}
+use Rattle.earlier.specs.Kept.{sealMark, sealAt, Boxed}
 use Rattle.earlier.proofs.Chains.{Below, none, more, chain-step, chain-end, chain-below, some-same}
 use Rattle.earlier.proofs.Finding.{said-box, by-box, chain-any}
 use Rattle.accepts.specs.Tests.{saidFinished, toldFinished, bothFinished}

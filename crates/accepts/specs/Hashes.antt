@@ -10,7 +10,8 @@ use Rattle.forms.specs.Forms.{sealedOf}
 use Rattle.closure.specs.Closure.{rowMarked, markRow, zeros}
 use Rattle.earlier.specs.declared.Heard.{Heard}
 use Rattle.earlier.specs.Earlier.{heardAt, saidTo, saidBy}
-use Rattle.earlier.specs.Boxes.{latestTo, chainFrom, some, sealAt}
+use Rattle.earlier.specs.Boxes.{latestTo, chainFrom, some}
+use Rattle.earlier.specs.Kept.{sealAt}
 use Rattle.accepts.specs.Tests.{saidFinished, toldFinished}
 
 -- a Finished of that side, said to this agent, whatever its hash

@@ -41,7 +41,7 @@ fn mark_row(marks: &mut [u8; 1024], r: u16)
 
 fn mark_event(
     file: &[u8],
-    boxes: &[u16; 2688],
+    boxes: &[u16; 5248],
     marks: &mut [u8; 1024],
     j: u16,
     server: bool,
@@ -60,7 +60,7 @@ fn mark_event(
 }
 
 // The hashes of the Finished that an agent was told are marked.
-fn mark_told(file: &[u8], boxes: &[u16; 2688], marks: &mut [u8; 1024], server: bool, to: u16)
+fn mark_told(file: &[u8], boxes: &[u16; 5248], marks: &mut [u8; 1024], server: bool, to: u16)
     ensures { λ _. ⌜ now (marks .exit) ≡
         markAll (now (file .entry)) (now (boxes .entry)) server to (chainFrom (now (boxes .entry)) (latestTo (now (boxes .entry)) to)) (now (marks .entry)) ⌝ }
 {
@@ -143,7 +143,7 @@ fn said_finished(
 // Whether event i is that Finished, and the other side's was told. It is read whole only where its hash was told.
 fn agreed_at(
     file: &[u8],
-    boxes: &[u16; 2688],
+    boxes: &[u16; 5248],
     marks: &[u8; 1024],
     e: u16,
     i: u16,
@@ -176,7 +176,7 @@ fn agreed_at(
 
 fn agreed_any(
     file: &[u8],
-    boxes: &[u16; 2688],
+    boxes: &[u16; 5248],
     marks: &[u8; 1024],
     e: u16,
     server: bool,
@@ -223,7 +223,7 @@ fn agreed_any(
 // the hashes that were told are marked first.
 fn both_finished(
     file: &[u8],
-    boxes: &[u16; 2688],
+    boxes: &[u16; 5248],
     e: u16,
     server: bool,
     from: u16,
@@ -271,7 +271,7 @@ fn noted_by_server(h: Heard, n: Remembered, p: Three) -> bool
 }
 
 // Rule 10: ClientAccepts.
-pub fn client_accepts(file: &[u8], boxes: &[u16; 2688], e: u16, h: Heard) -> bool
+pub fn client_accepts(file: &[u8], boxes: &[u16; 5248], e: u16, h: Heard) -> bool
     ensures { λ b. ⌜ b ≡ clientAccepts (now (file .entry)) (found (now (file .entry)) (now (boxes .entry))) (bothIn (now (file .entry)) (now (boxes .entry)) e) h ⌝ }
 {
     if !h.says {
@@ -302,7 +302,7 @@ pub fn client_accepts(file: &[u8], boxes: &[u16; 2688], e: u16, h: Heard) -> boo
 }
 
 // Rule 11: ServerAccepts.
-pub fn server_accepts(file: &[u8], boxes: &[u16; 2688], e: u16, h: Heard) -> bool
+pub fn server_accepts(file: &[u8], boxes: &[u16; 5248], e: u16, h: Heard) -> bool
     ensures { λ b. ⌜ b ≡ serverAccepts (now (file .entry)) (found (now (file .entry)) (now (boxes .entry))) (bothIn (now (file .entry)) (now (boxes .entry)) e) h ⌝ }
 {
     if !h.says {

@@ -11,7 +11,8 @@ use lib.Dec.{ltb}
 use borrow.Author.Tests.{lt-ltb, le-ltb}
 use Rattle.trace.specs.Rows.{choose}
 use Rattle.trace.proofs.First.{bool-cases}
-use Rattle.earlier.specs.Boxes.{behind, next, chain, chainFrom, some, found, Reach, here, further}
+use Rattle.earlier.specs.Boxes.{behind, next, chain, chainFrom, some}
+use Rattle.earlier.specs.Kept.{Reach, here, further}
 
 or-true : (a : Bool) → (a || true) ≡ true
 or-true true = refl

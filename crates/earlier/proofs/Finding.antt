@@ -1,6 +1,6 @@
 -- What is looked for in its box, or in all, is found exactly when it happened.
 -- Assumes nothing.
-use Prim.Native.Nat.{ℕ, _+_, _-_, _%_, _<_, _≤_}
+use Prim.Native.Nat.{ℕ, zero, suc, _+_, _-_, _%_, _<_, _≤_}
 use mathlib.Core.Bool.{Bool, true, false, not, _&&_, true≢false}
 use mathlib.Core.List.{List}
 use mathlib.Core.Logic.{_⊎_, inl, inr}
@@ -8,7 +8,7 @@ use mathlib.Core.Path.{_≡_, refl, sym, _∙_, ap}
 use native.Mathlib.Omega.{arith}
 use native.Mathlib.Nat.{mod-lt}
 use native.Mathlib.Decide.{decLt}
-use lib.Dec.{eqb}
+use lib.Dec.{eqb, ltb}
 use lib.ListN.{getD}
 use borrow.Author.Tests.{eqb-true, lt-ltb, le-ltb}
 use Rattle.trace.specs.First.{any}
@@ -18,8 +18,11 @@ use Rattle.earlier.specs.declared.Heard.{Heard}
 use Rattle.earlier.specs.declared.Wanted.{Wanted}
 use Rattle.earlier.specs.declared.Wanted.the-variants.{HelloFor, HelloBy, HelloTo, ReplyWith, ReplyTo, ReplyBy, Cert, Secret, Sent, Session, Under}
 use Rattle.earlier.specs.Earlier.{heardAt, saidTo, saidBy, notedBy, fitsIn, earlier, past}
-use Rattle.earlier.specs.Boxes.{boxOf, boxFor, chainFrom, some, found, Reach, Linked}
-use Rattle.earlier.proofs.Chains.{some-below, some-reach}
+use Rattle.earlier.specs.Cards.{cardOf, lookFor, fitsCard, fitsAgents}
+use Rattle.earlier.specs.Boxes.{boxOf, boxFor, chainFrom, some, cardAt, fitsAt, found}
+use Rattle.earlier.specs.Kept.{Reach, Linked, Boxed}
+use Rattle.earlier.proofs.Shapes.{card-fits}
+use Rattle.earlier.proofs.Chains.{some-below, some-reach, some-same, chain-below}
 
 -- a box has what happened
 pub chain-any : (file boxes : List ℕ) (e : ℕ) → Linked file boxes e → (p : Heard → Bool) (b : ℕ) → b < 128 →
@@ -122,17 +125,37 @@ far-said file (Sent to secret) h l t = near to l
 far-said file (Session from sid a b m) h l t = noted-near from l
 far-said file (Under from key) h l t = both (h .says) (eqb (h .from) from) (both (h .says && eqb (h .from) from) _ t .0) .0
 
-found-earlier : (file boxes : List ℕ) (e : ℕ) → Linked file boxes e → (wanted : Wanted) → found file boxes wanted ≡ past file e wanted
+-- among the events that were kept, the cards tell what is wanted
+fits-kept : (file boxes : List ℕ) (e : ℕ) → Boxed file boxes e → (wanted : Wanted) (j : ℕ) → j < e →
+    fitsAt file boxes wanted j ≡ fitsIn file wanted (heardAt file j)
+fits-kept file boxes e x wanted j l =
+    let room : ltb j 512 ≡ true = lt-ltb j 512 (omega (arith, x .links .few)) in
+    let card : cardAt boxes j ≡ cardOf file (heardAt file j) = x .cards j l in
+    (λ i. room i && fitsCard (lookFor wanted) (card i) && fitsAgents wanted (heardAt file j)) ∙ sym (card-fits file (heardAt file j) wanted)
+
+chain-kept : (file boxes : List ℕ) (e : ℕ) → Boxed file boxes e → (wanted : Wanted) (b : ℕ) → b < 128 →
+    some (fitsAt file boxes wanted) (chainFrom boxes (getD boxes b 0)) ≡ some (λ j. fitsIn file wanted (heardAt file j)) (chainFrom boxes (getD boxes b 0))
+chain-kept file boxes e x wanted b l =
+    some-same boxes (fitsAt file boxes wanted) (fits-kept file boxes e x wanted) (chain-below boxes e (getD boxes b 0) (x .links .low b l))
+
+any-below : (p q : ℕ → Bool) (n : ℕ) → ((k : ℕ) → k < n → p k ≡ q k) → any p n ≡ any q n
+unfolding any
+any-below p q zero h = refl
+any-below p q (suc n) h = rw (any-below p q n (λ k l. h k (omega arith)), h n (omega arith)) refl
+
+found-earlier : (file boxes : List ℕ) (e : ℕ) → Boxed file boxes e → (wanted : Wanted) → found file boxes wanted ≡ past file e wanted
 unfolding earlier
 found-earlier file boxes e x wanted = go (decLt (boxFor wanted) 128)
   where
     go : Dec (boxFor wanted < 128) → found file boxes wanted ≡ past file e wanted
     go (yes l) =
         rw (lt-ltb (boxFor wanted) 128 l)
-        (chain-any file boxes e x (fitsIn file wanted) (boxFor wanted) l (λ h. fits-box file wanted h l))
+        (chain-kept file boxes e x wanted (boxFor wanted) l ∙
+        chain-any file boxes e (x .links) (fitsIn file wanted) (boxFor wanted) l (λ h. fits-box file wanted h l))
     go (no l) =
         rw (le-ltb (boxFor wanted) 128 (omega arith))
-        (any-box file boxes e x (fitsIn file wanted) (λ h. far-said file wanted h (omega arith)))
+        (any-below _ _ 64 (λ b m. chain-kept file boxes e x wanted b (omega arith)) ∙
+        any-box file boxes e (x .links) (fitsIn file wanted) (λ h. far-said file wanted h (omega arith)))
 
-pub found-past : (file boxes : List ℕ) (e : ℕ) → Linked file boxes e → found file boxes ≡ past file e
+pub found-past : (file boxes : List ℕ) (e : ℕ) → Boxed file boxes e → found file boxes ≡ past file e
 found-past file boxes e x = λ i wanted. found-earlier file boxes e x wanted i

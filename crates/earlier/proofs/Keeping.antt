@@ -1,6 +1,6 @@
--- One event more is kept: the others stay in their boxes, and so do the hashes of their Finished.
+-- One event more is kept: the others stay in their boxes, and so do the hashes of their Finished and their cards.
 -- Assumes nothing.
-use Prim.Native.Nat.{ℕ, zero, suc, _+_, _-_, _%_, _<_, _≤_}
+use Prim.Native.Nat.{ℕ, zero, suc, _+_, _-_, _*_, _%_, _<_, _≤_}
 use mathlib.Core.Bool.{Bool, true, false, not, _&&_, _||_, true≢false}
 use mathlib.Core.List.{List}
 use mathlib.Core.Logic.{_⊎_, inl, inr, ⊎-elim}
@@ -17,8 +17,11 @@ use Rattle.trace.specs.Rows.{choose}
 use Rattle.trace.proofs.First.{lt-suc, bool-cases}
 use Rattle.trace.proofs.Both.{both3, both4}
 use Rattle.earlier.specs.declared.Heard.{Heard}
+use Rattle.earlier.specs.declared.cards.Card.{Card}
 use Rattle.earlier.specs.Earlier.{heardAt, sameHeard}
-use Rattle.earlier.specs.Boxes.{boxOf, behind, found, slotOf, isAgain, sealMark, sealAt, boxedIn, sealedIn, keptIn, Reach, here, further, Linked, Boxed}
+use Rattle.earlier.specs.Cards.{cardWith, cardOf}
+use Rattle.earlier.specs.Boxes.{boxOf, behind, cardAt}
+use Rattle.earlier.specs.Kept.{slotOf, isAgain, sealMark, sealAt, boxedIn, sealedIn, cardedIn, keptIn, Reach, here, further, Linked, Boxed}
 
 -- every box is one of the 128
 pub box-room : (h : Heard) → boxOf h < 128
@@ -49,18 +52,18 @@ zeros zero i = refl
 zeros (suc n) zero = refl
 zeros (suc n) (suc i) = zeros n i
 
-none-linked : (file : List ℕ) → Linked file (replicate 2688 0) 0
+none-linked : (file : List ℕ) → Linked file (replicate 5248 0) 0
 none-linked file =
     record {
-      room = length-replicate {A = ℕ} 2688 0;
+      room = length-replicate {A = ℕ} 5248 0;
       few = omega arith;
-      falls = λ e l. rw (zeros 2688 (128 + e)) (omega arith);
-      low = λ b l. rw (zeros 2688 b) (omega arith);
+      falls = λ e l. rw (zeros 5248 (128 + e)) (omega arith);
+      low = λ b l. rw (zeros 5248 b) (omega arith);
       kept = λ j l. absurd (omega arith);
     }
 
-pub none-boxed : (file : List ℕ) → Boxed file (replicate 2688 0) 0
-none-boxed file = record { links = none-linked file; seals = λ server j l. absurd (omega arith) }
+pub none-boxed : (file : List ℕ) → Boxed file (replicate 5248 0) 0
+none-boxed file = record { links = none-linked file; seals = λ server j l. absurd (omega arith); cards = λ j l. absurd (omega arith) }
 
 -- event e, with those before it in their boxes
 module _ (file boxes : List ℕ) (e : ℕ) (x : Linked file boxes e) (few : e < 512) where
@@ -239,6 +242,96 @@ module _ (file boxes : List ℕ) (n at v : ℕ) (far : 640 ≤ at) (x : Linked f
             q,
           )
 
+-- a card is written behind all that was kept before
+module _ (boxes : List ℕ) (e : ℕ) (card : Card) where
+  abbrev at : ℕ
+  at = 2688 + 5 * e
+
+  abbrev carded1 : List ℕ
+  carded1 = set boxes at (card .shape)
+
+  abbrev carded2 : List ℕ
+  carded2 = set carded1 (at + 1) (card .first)
+
+  abbrev carded3 : List ℕ
+  carded3 = set carded2 (at + 2) (card .second)
+
+  abbrev carded4 : List ℕ
+  carded4 = set carded3 (at + 3) (card .third)
+
+  abbrev carded : List ℕ
+  carded = cardedIn boxes e card
+
+  carded-before : (k : ℕ) → k < at → getD carded k 0 ≡ getD boxes k 0
+  carded-before k l =
+      getD-set-other carded4 (at + 4) k (card .fourth) 0 (λ q. omega arith) ∙
+      getD-set-other carded3 (at + 3) k (card .third) 0 (λ q. omega arith) ∙
+      getD-set-other carded2 (at + 2) k (card .second) 0 (λ q. omega arith) ∙
+      getD-set-other carded1 (at + 1) k (card .first) 0 (λ q. omega arith) ∙
+      getD-set-other boxes at k (card .shape) 0 (λ q. omega arith)
+
+  carded-linked : (file : List ℕ) (n : ℕ) → Linked file boxes n → Linked file carded n
+  carded-linked file n x =
+      stored-linked file carded4 n (at + 4) (card .fourth) (omega arith)
+      (stored-linked file carded3 n (at + 3) (card .third) (omega arith)
+      (stored-linked file carded2 n (at + 2) (card .second) (omega arith)
+      (stored-linked file carded1 n (at + 1) (card .first) (omega arith) (stored-linked file boxes n at (card .shape) (omega arith) x))))
+
+  module _ (room : length boxes ≡ 5248) (few : e < 512) where
+    room1 : length carded1 ≡ 5248
+    room1 = length-set boxes at (card .shape) ∙ room
+
+    room2 : length carded2 ≡ 5248
+    room2 = length-set carded1 (at + 1) (card .first) ∙ room1
+
+    room3 : length carded3 ≡ 5248
+    room3 = length-set carded2 (at + 2) (card .second) ∙ room2
+
+    room4 : length carded4 ≡ 5248
+    room4 = length-set carded3 (at + 3) (card .third) ∙ room3
+
+    shape-new : getD carded at 0 ≡ card .shape
+    shape-new =
+        getD-set-other carded4 (at + 4) at (card .fourth) 0 (λ q. omega arith) ∙
+        getD-set-other carded3 (at + 3) at (card .third) 0 (λ q. omega arith) ∙
+        getD-set-other carded2 (at + 2) at (card .second) 0 (λ q. omega arith) ∙
+        getD-set-other carded1 (at + 1) at (card .first) 0 (λ q. omega arith) ∙
+        getD-set-same boxes at (card .shape) 0 (omega (arith, room))
+
+    first-new : getD carded (at + 1) 0 ≡ card .first
+    first-new =
+        getD-set-other carded4 (at + 4) (at + 1) (card .fourth) 0 (λ q. omega arith) ∙
+        getD-set-other carded3 (at + 3) (at + 1) (card .third) 0 (λ q. omega arith) ∙
+        getD-set-other carded2 (at + 2) (at + 1) (card .second) 0 (λ q. omega arith) ∙
+        getD-set-same carded1 (at + 1) (card .first) 0 (omega (arith, room1))
+
+    second-new : getD carded (at + 2) 0 ≡ card .second
+    second-new =
+        getD-set-other carded4 (at + 4) (at + 2) (card .fourth) 0 (λ q. omega arith) ∙
+        getD-set-other carded3 (at + 3) (at + 2) (card .third) 0 (λ q. omega arith) ∙
+        getD-set-same carded2 (at + 2) (card .second) 0 (omega (arith, room2))
+
+    third-new : getD carded (at + 3) 0 ≡ card .third
+    third-new =
+        getD-set-other carded4 (at + 4) (at + 3) (card .fourth) 0 (λ q. omega arith) ∙
+        getD-set-same carded3 (at + 3) (card .third) 0 (omega (arith, room3))
+
+    fourth-new : getD carded (at + 4) 0 ≡ card .fourth
+    fourth-new = getD-set-same carded4 (at + 4) (card .fourth) 0 (omega (arith, room4))
+
+    card-new : cardAt carded e ≡ card
+    card-new = λ i. cardWith (shape-new i) (first-new i) (second-new i) (third-new i) (fourth-new i)
+
+  card-old : (j : ℕ) → j < e → cardAt carded j ≡ cardAt boxes j
+  card-old j l =
+      let k = 2688 + 5 * j in
+      let p0 = carded-before k (omega arith) in
+      let p1 = carded-before (k + 1) (omega arith) in
+      let p2 = carded-before (k + 2) (omega arith) in
+      let p3 = carded-before (k + 3) (omega arith) in
+      let p4 = carded-before (k + 4) (omega arith) in
+      λ i. cardWith (p0 i) (p1 i) (p2 i) (p3 i) (p4 i)
+
 module _ (file boxes : List ℕ) (e : ℕ) (x : Boxed file boxes e) (few : e < 512) where
   abbrev linked : List ℕ
   linked = boxedIn file boxes e
@@ -257,7 +350,7 @@ module _ (file boxes : List ℕ) (e : ℕ) (x : Boxed file boxes e) (few : e < 5
       stored-linked file client (suc e) (2176 + e) (sealMark file true row) (omega arith)
       (stored-linked file linked (suc e) (1664 + e) (sealMark file false row) (omega arith) (boxed-linked file boxes e (x .links) few))
 
-  room : length linked ≡ 2688
+  room : length linked ≡ 5248
   room = boxed-linked file boxes e (x .links) few .room
 
   client-new : getD both-sides (1664 + e) 0 ≡ sealMark file false row
@@ -288,8 +381,37 @@ module _ (file boxes : List ℕ) (e : ℕ) (x : Boxed file boxes e) (few : e < 5
       at true (inr q) = rw q server-new
       at false (inr q) = rw q client-new
 
+  abbrev card : Card
+  card = cardOf file (heardAt file e)
+
+  abbrev kept : List ℕ
+  kept = cardedIn both-sides e card
+
+  seals-kept : (server : Bool) (j : ℕ) → j < suc e → sealAt kept server j ≡ sealMark file server (heardAt file j .row)
+  seals-kept server j l = same server ∙ seals′ server j l
+    where
+      same : (server : Bool) → sealAt kept server j ≡ sealAt both-sides server j
+      same true = ap (λ (v : ℕ). choose (ltb j 512) v 0) (carded-before both-sides e card (2176 + j) (omega arith))
+      same false = ap (λ (v : ℕ). choose (ltb j 512) v 0) (carded-before both-sides e card (1664 + j) (omega arith))
+
+  cards′ : (j : ℕ) → j < suc e → cardAt kept j ≡ cardOf file (heardAt file j)
+  cards′ j l = at (lt-suc j e l)
+    where
+      far : (k : ℕ) → 2688 ≤ k → getD both-sides k 0 ≡ getD boxes k 0
+      far k m = seal-old k (omega arith) (λ q. omega arith) (λ q. omega arith)
+
+      before : cardAt both-sides j ≡ cardAt boxes j
+      before =
+          let k = 2688 + 5 * j in
+          λ i. cardWith (far k (omega arith) i) (far (k + 1) (omega arith) i) (far (k + 2) (omega arith) i) (far (k + 3) (omega arith) i) (far (k + 4) (omega arith) i)
+
+      at : (j < e) ⊎ (j ≡ e) → cardAt kept j ≡ cardOf file (heardAt file j)
+      at (inl m) = card-old both-sides e card j m ∙ before ∙ x .cards j m
+      at (inr q) = rw q (card-new both-sides e card (links′ .room) few)
+
   pub keep-boxed : Boxed file (keptIn file boxes e) (suc e)
-  keep-boxed = rw (lt-ltb e 512 few) (record { links = links′; seals = seals′ })
+  keep-boxed =
+      rw (lt-ltb e 512 few) (record { links = carded-linked both-sides e card file (suc e) links′; seals = seals-kept; cards = cards′ })
 
 -- what `box_event` leaves, by what it found
 module _ (file boxes : List ℕ) (e : ℕ) {h : Heard} (heard : h ≡ heardAt file e) {at slot : ℕ} (box : at ≡ boxOf h) (place : slot ≡ slotOf h)
@@ -319,11 +441,12 @@ module _ (file boxes : List ℕ) (e : ℕ) {h : Heard} (heard : h ≡ heardAt fi
       let w : boxedBy at slot again ≡ boxes = rw t refl in
       sym w ∙ boxed-is
 
-pub keep-writes : (file boxes : List ℕ) (e : ℕ) {h : Heard} {linked : List ℕ} {client server : ℕ} → e < 512 → h ≡ heardAt file e →
-    linked ≡ boxedIn file boxes e → client ≡ sealMark file false (h .row) → server ≡ sealMark file true (h .row) →
-    set (set linked (1664 + e) client) (2176 + e) server ≡ keptIn file boxes e
-keep-writes file boxes e {h} {linked} {client} {server} l heard q c s =
+pub keep-writes : (file boxes : List ℕ) (e : ℕ) {h : Heard} {linked : List ℕ} {client server : ℕ} {card : Card} → e < 512 → h ≡ heardAt file e →
+    linked ≡ boxedIn file boxes e → client ≡ sealMark file false (h .row) → server ≡ sealMark file true (h .row) → card ≡ cardOf file h →
+    cardedIn (set (set linked (1664 + e) client) (2176 + e) server) e card ≡ keptIn file boxes e
+keep-writes file boxes e {h} {linked} {client} {server} {card} l heard q c s d =
     let c′ : client ≡ sealMark file false (heardAt file e .row) = c ∙ (λ i. sealMark file false (heard i .row)) in
     let s′ : server ≡ sealMark file true (heardAt file e .row) = s ∙ (λ i. sealMark file true (heard i .row)) in
-    let w : keptIn file boxes e ≡ sealedIn file (boxedIn file boxes e) e = rw (lt-ltb e 512 l) refl in
-    (λ i. set (set (q i) (1664 + e) (c′ i)) (2176 + e) (s′ i)) ∙ sym w
+    let d′ : card ≡ cardOf file (heardAt file e) = d ∙ ap (cardOf file) heard in
+    let w : keptIn file boxes e ≡ cardedIn (sealedIn file (boxedIn file boxes e) e) e (cardOf file (heardAt file e)) = rw (lt-ltb e 512 l) refl in
+    (λ i. cardedIn (set (set (q i) (1664 + e) (c′ i)) (2176 + e) (s′ i)) e (d′ i)) ∙ sym w

@@ -1,6 +1,7 @@
 pub mod Meant
 pub mod Premises
-pub mod Gates
+pub mod Apart
+pub mod Shapes
 pub mod Chains
 pub mod Keeping
 pub mod Finding

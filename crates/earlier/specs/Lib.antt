@@ -1,2 +1,4 @@
 pub mod Earlier
+pub mod Cards
 pub mod Boxes
+pub mod Kept

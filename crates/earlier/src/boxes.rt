@@ -1,21 +1,27 @@
 // Earlier events by their boxes, so that a search looks only where its event can lie.
 //
 // An event lies in the box of its receiver, and a note in one of its agent's own. The array has 128 boxes, 512
-// events, 1,024 slots, and for each event the hash of its Finished, the client's and the server's. A box leads to
+// events, 1,024 slots, and for each event the hash of its Finished, the client's and the server's, and its card. A box leads to
 // its latest event, an event to the one before it in its box, and a slot to the last event that was kept there: by
 // one more than the event's number, or 0 for none. An event that equals the one at its slot is not kept again, so
 // that repeats cost nothing.
 use super::Heard;
 use super::Wanted;
-use super::fits;
+use super::cards;
+use super::cards::Card;
+use super::cards::Look;
 use super::hear;
 use super::same_heard;
 ghost use mathlib.Core.Path.{_≡_};
 ghost use Prim.Native.Nat.{_<_};
 ghost use lib.ListN.{getD};
 ghost use Rattle.trace.specs.First.{any};
-ghost use Rattle.earlier.specs.Earlier.{heardAt, fitsIn};
-ghost use Rattle.earlier.specs.Boxes.{boxOf, boxFor, latestTo, next, chainFrom, some, slotOf, isAgain, sealMark, sealAt, boxedIn, keptIn};
+ghost use lib.Dec.{ltb};
+ghost use mathlib.Core.Bool.{_&&_};
+ghost use Rattle.earlier.specs.Earlier.{heardAt};
+ghost use Rattle.earlier.specs.Cards.{lookFor, fitsCard};
+ghost use Rattle.earlier.specs.Boxes.{boxOf, boxFor, latestTo, next, chainFrom, some, cardAt, fitsAt};
+ghost use Rattle.earlier.specs.Kept.{slotOf, isAgain, sealMark, sealAt, boxedIn, cardedIn, keptIn};
 
 const AGENTS: u16 = 64;
 
@@ -32,6 +38,10 @@ const SLOTS: usize = 1024;
 const CLIENTS_AT: usize = 1664;
 
 const SERVERS_AT: usize = 2176;
+
+const CARDS_AT: usize = 2688;
+
+const CARD: usize = 5;
 
 const ROWS: u16 = 1024;
 
@@ -68,14 +78,14 @@ pub fn box_for(wanted: Wanted) -> u16
 }
 
 // The latest event that was said to an agent: one more than its number, or 0.
-pub fn latest_to(boxes: &[u16; 2688], to: u16) -> u16
+pub fn latest_to(boxes: &[u16; 5248], to: u16) -> u16
     ensures { λ link. ⌜ link ≡ latestTo (now (boxes .entry)) to ⌝ }
 {
     boxes[(to % AGENTS) as usize]
 }
 
 // The next link of a chain. It falls, so that every walk ends, whatever the array holds.
-pub fn next(boxes: &[u16; 2688], link: u16) -> u16
+pub fn next(boxes: &[u16; 5248], link: u16) -> u16
     ensures { λ l. ⌜ l ≡ next (now (boxes .entry)) link ⌝ }
 {
     if EVENTS < link {
@@ -88,13 +98,50 @@ pub fn next(boxes: &[u16; 2688], link: u16) -> u16
     if l < link { l } else { 0 }
 }
 
+// Whether the card of event j is what is asked for: the shape first, since most differ there.
+fn fits_card(boxes: &[u16; 5248], look: Look, j: u16) -> bool
+    ensures { λ b. ⌜ b ≡ (ltb j 512 && fitsCard look (cardAt (now (boxes .entry)) j)) ⌝ }
+{
+    if EVENTS <= j {
+        return false;
+    }
+    let at = CARDS_AT + CARD * (j as usize);
+    if boxes[at] != look.shape {
+        return false;
+    }
+    cards::fits_part(look.first, boxes[at + 1])
+        & cards::fits_part(look.second, boxes[at + 2])
+        & cards::fits_part(look.third, boxes[at + 3])
+        & cards::fits_part(look.fourth, boxes[at + 4])
+}
+
+// Whether event j is what is wanted.
+fn fits(file: &[u8], boxes: &[u16; 5248], wanted: Wanted, look: Look, j: u16) -> bool
+    requires { ⌜ look ≡ lookFor wanted ⌝ }
+    ensures { λ b. ⌜ b ≡ fitsAt (now (file .entry)) (now (boxes .entry)) wanted j ⌝ }
+{
+    let card = fits_card(boxes, look, j);
+    if card {
+        cards::fits_agents(wanted, hear(file, j))
+    } else {
+        false
+    }
+}
+
 // Whether an event of the chain is what is wanted, the latest first.
-pub fn search(file: &[u8], boxes: &[u16; 2688], wanted: Wanted, head: u16) -> bool
-    ensures { λ b. ⌜ b ≡ some (λ j. fitsIn (now (file .entry)) wanted (heardAt (now (file .entry)) j)) (chainFrom (now (boxes .entry)) head) ⌝ }
+pub(crate) fn search(
+    file: &[u8],
+    boxes: &[u16; 5248],
+    wanted: Wanted,
+    look: Look,
+    head: u16,
+) -> bool
+    requires { ⌜ look ≡ lookFor wanted ⌝ }
+    ensures { λ b. ⌜ b ≡ some (fitsAt (now (file .entry)) (now (boxes .entry)) wanted) (chainFrom (now (boxes .entry)) head) ⌝ }
 {
     let mut link = head;
     while 0 < link {
-        let found = fits(file, wanted, link - 1);
+        let found = fits(file, boxes, wanted, look, link - 1);
         if found {
             return true;
         }
@@ -104,13 +151,14 @@ pub fn search(file: &[u8], boxes: &[u16; 2688], wanted: Wanted, head: u16) -> bo
 }
 
 // The same in the boxes of all receivers.
-pub fn search_all(file: &[u8], boxes: &[u16; 2688], wanted: Wanted) -> bool
-    ensures { λ b. ⌜ b ≡ any (λ b. some (λ j. fitsIn (now (file .entry)) wanted (heardAt (now (file .entry)) j))
+pub(crate) fn search_all(file: &[u8], boxes: &[u16; 5248], wanted: Wanted, look: Look) -> bool
+    requires { ⌜ look ≡ lookFor wanted ⌝ }
+    ensures { λ b. ⌜ b ≡ any (λ b. some (fitsAt (now (file .entry)) (now (boxes .entry)) wanted)
         (chainFrom (now (boxes .entry)) (getD (now (boxes .entry)) b 0))) 64 ⌝ }
 {
     let mut b: u16 = 0;
     while b < AGENTS {
-        let found = search(file, boxes, wanted, boxes[b as usize]);
+        let found = search(file, boxes, wanted, look, boxes[b as usize]);
         if found {
             return true;
         }
@@ -159,7 +207,7 @@ fn seal_of(file: &[u8], r: u16, server: bool) -> u16
 }
 
 // What `seal_of` said of an event's row when it was kept.
-pub fn sealed(boxes: &[u16; 2688], server: bool, e: u16) -> u16
+pub fn sealed(boxes: &[u16; 5248], server: bool, e: u16) -> u16
     ensures { λ m. ⌜ m ≡ sealAt (now (boxes .entry)) server e ⌝ }
 {
     if EVENTS <= e {
@@ -173,7 +221,7 @@ pub fn sealed(boxes: &[u16; 2688], server: bool, e: u16) -> u16
 }
 
 // Event e, which is h, is put into its box, unless its slot leads to one that equals it.
-fn box_event(file: &[u8], boxes: &mut [u16; 2688], e: u16, h: Heard)
+fn box_event(file: &[u8], boxes: &mut [u16; 5248], e: u16, h: Heard)
     requires { ⌜ e < 512 ⌝ }
     requires { ⌜ h ≡ heardAt (now file) e ⌝ }
     ensures { λ _. ⌜ now (boxes .exit) ≡ boxedIn (now (file .entry)) (now (boxes .entry)) e ⌝ }
@@ -188,8 +236,21 @@ fn box_event(file: &[u8], boxes: &mut [u16; 2688], e: u16, h: Heard)
     }
 }
 
-// Event e is kept: in its box, and by the hash of its Finished.
-pub fn keep(file: &[u8], boxes: &mut [u16; 2688], e: u16)
+// The card of event e is written down.
+fn keep_card(boxes: &mut [u16; 5248], e: u16, card: Card)
+    requires { ⌜ e < 512 ⌝ }
+    ensures { λ _. ⌜ now (boxes .exit) ≡ cardedIn (now (boxes .entry)) e card ⌝ }
+{
+    let at = CARDS_AT + CARD * (e as usize);
+    boxes[at] = card.shape;
+    boxes[at + 1] = card.first;
+    boxes[at + 2] = card.second;
+    boxes[at + 3] = card.third;
+    boxes[at + 4] = card.fourth;
+}
+
+// Event e is kept: in its box, by the hash of its Finished, and by its card.
+pub fn keep(file: &[u8], boxes: &mut [u16; 5248], e: u16)
     ensures { λ _. ⌜ now (boxes .exit) ≡ keptIn (now (file .entry)) (now (boxes .entry)) e ⌝ }
 {
     if e < EVENTS {
@@ -197,5 +258,6 @@ pub fn keep(file: &[u8], boxes: &mut [u16; 2688], e: u16)
         box_event(file, boxes, e, h);
         boxes[CLIENTS_AT + (e as usize)] = seal_of(file, h.row, false);
         boxes[SERVERS_AT + (e as usize)] = seal_of(file, h.row, true);
+        keep_card(boxes, e, cards::card_of(file, h));
     }
 }

@@ -31,7 +31,7 @@ fn with_prf(is: bool, m: Sealed, p: Three) -> bool
 }
 
 // Rule 8: ClientFinished.
-pub fn client_finished(file: &[u8], boxes: &[u16; 2688], h: Heard) -> bool
+pub fn client_finished(file: &[u8], boxes: &[u16; 5248], h: Heard) -> bool
     ensures { λ b. ⌜ b ≡ clientFinished (now (file .entry)) (found (now (file .entry)) (now (boxes .entry))) h ⌝ }
 {
     if h.says {
@@ -68,7 +68,7 @@ pub fn client_finished(file: &[u8], boxes: &[u16; 2688], h: Heard) -> bool
 }
 
 // Rule 9: ServerFinished.
-pub fn server_finished(file: &[u8], boxes: &[u16; 2688], h: Heard) -> bool
+pub fn server_finished(file: &[u8], boxes: &[u16; 5248], h: Heard) -> bool
     ensures { λ b. ⌜ b ≡ serverFinished (now (file .entry)) (found (now (file .entry)) (now (boxes .entry))) h ⌝ }
 {
     if h.says {
@@ -101,7 +101,7 @@ pub fn server_finished(file: &[u8], boxes: &[u16; 2688], h: Heard) -> bool
 }
 
 // Rule 12: ClientResume.
-pub fn client_resume(file: &[u8], boxes: &[u16; 2688], h: Heard) -> bool
+pub fn client_resume(file: &[u8], boxes: &[u16; 5248], h: Heard) -> bool
     ensures { λ b. ⌜ b ≡ clientResume (now (file .entry)) (found (now (file .entry)) (now (boxes .entry))) h ⌝ }
 {
     if h.says {
@@ -136,7 +136,7 @@ pub fn client_resume(file: &[u8], boxes: &[u16; 2688], h: Heard) -> bool
 }
 
 // Rule 13: ServerResume.
-pub fn server_resume(file: &[u8], boxes: &[u16; 2688], h: Heard) -> bool
+pub fn server_resume(file: &[u8], boxes: &[u16; 5248], h: Heard) -> bool
     ensures { λ b. ⌜ b ≡ serverResume (now (file .entry)) (found (now (file .entry)) (now (boxes .entry))) h ⌝ }
 {
     if h.says {

@@ -63,7 +63,7 @@ pub fn client_hello(file: &[u8], used: &[u8; 1024], h: Heard) -> bool
 }
 
 // Rule 4: SH with a fresh nonce, to the agent of a CH.
-pub fn server_hello(file: &[u8], boxes: &[u16; 2688], used: &[u8; 1024], h: Heard) -> bool
+pub fn server_hello(file: &[u8], boxes: &[u16; 5248], used: &[u8; 1024], h: Heard) -> bool
     ensures { λ b. ⌜ b ≡ tests.serverHello (now (file .entry)) (now (used .entry)) (found (now (file .entry)) (now (boxes .entry))) h ⌝ }
 {
     if h.says {
@@ -95,7 +95,7 @@ pub fn certificate(file: &[u8], h: Heard) -> bool
 // Rule 6: a fresh secret noted, and then sent under the key of a certificate.
 pub fn key_exchange(
     file: &[u8],
-    boxes: &[u16; 2688],
+    boxes: &[u16; 5248],
     used: &[u8; 1024],
     note: Heard,
     said: Heard,
@@ -118,7 +118,7 @@ pub fn key_exchange(
 }
 
 // Rule 7: the nonce of an SH and a secret of one's own, signed.
-pub fn cert_verify(file: &[u8], boxes: &[u16; 2688], h: Heard) -> bool
+pub fn cert_verify(file: &[u8], boxes: &[u16; 5248], h: Heard) -> bool
     ensures { λ b. ⌜ b ≡ tests.certVerify (now (file .entry)) (found (now (file .entry)) (now (boxes .entry))) h ⌝ }
 {
     if h.says {
@@ -139,7 +139,7 @@ pub fn cert_verify(file: &[u8], boxes: &[u16; 2688], h: Heard) -> bool
 }
 
 // Rule 14: a session key that one spoke under, lost to the spy.
-pub fn oops(file: &[u8], boxes: &[u16; 2688], h: Heard) -> bool
+pub fn oops(file: &[u8], boxes: &[u16; 5248], h: Heard) -> bool
     ensures { λ b. ⌜ b ≡ tests.oops (now (file .entry)) (found (now (file .entry)) (now (boxes .entry))) h ⌝ }
 {
     if (h.says) & (h.to == SPY) {

@@ -18,7 +18,8 @@ use Rattle.used.specs.Marking.{useEvent, usedAfter}
 use Rattle.earlier.specs.declared.Heard.{Heard}
 use Rattle.earlier.specs.declared.Wanted.{Wanted}
 use Rattle.earlier.specs.Earlier.{heardAt, past}
-use Rattle.earlier.specs.Boxes.{found, keptIn, Boxed}
+use Rattle.earlier.specs.Boxes.{found}
+use Rattle.earlier.specs.Kept.{keptIn, Boxed}
 use Rattle.earlier.proofs.Keeping.{keep-boxed}
 use Rattle.earlier.proofs.Finding.{found-past}
 use Rattle.accepts.specs.Hashes.{bothIn}
@@ -199,7 +200,7 @@ cleared-more i bytes bs bs′ e q = rw (add-one, ← e) q
 module _ (file : List ℕ) (N i : ℕ) {us rs ks bs : List ℕ} (b : Before file i us rs ks bs) {h : Heard} (eh : h ≡ heardAt file i) {k : ℕ}
     (ek : k ≡ lowestRule file us rs (found file bs) (bothIn file bs i) h) where
   finds : found file bs ≡ past file i
-  finds = found-past file bs i (b .kept .links)
+  finds = found-past file bs i (b .kept)
 
   rule-is : k ≡ ruleOf file i
   rule-is = ek ∙ (λ j. lowestRule file (b .uses j) (b .sees j) (finds j) (both-past file bs i (b .kept) j) (eh j))

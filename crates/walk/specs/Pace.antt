@@ -7,7 +7,7 @@ use lib.Dec.{ltb}
 use lib.ListN.{set}
 use Rattle.trace.specs.Rows.{choose}
 use Rattle.closure.specs.Closure.{knownAfter}
-use Rattle.earlier.specs.Boxes.{Boxed}
+use Rattle.earlier.specs.Kept.{Boxed}
 use Rattle.used.specs.Marking.{usedAfter}
 
 -- one event by a rule of one event, two by rule 6, or none

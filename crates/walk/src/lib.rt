@@ -41,7 +41,7 @@ fn take_event(
     used: &mut [u8; 1024],
     rows: &mut [u8; 1024],
     keys: &mut [u8; 128],
-    boxes: &mut [u16; 2688],
+    boxes: &mut [u16; 5248],
     e: u16,
 )
     requires { ⌜ Before (now file) e (now used) (now rows) (now keys) (now boxes) ⌝ }
@@ -61,7 +61,7 @@ fn advance(
     used: &mut [u8; 1024],
     rows: &mut [u8; 1024],
     keys: &mut [u8; 128],
-    boxes: &mut [u16; 2688],
+    boxes: &mut [u16; 5248],
     made: &mut [u8; 1024],
     i: u16,
     events: u16,
@@ -116,7 +116,7 @@ pub fn walk_events(file: &[u8], rules: &mut [u8]) -> u16
     let mut used = [0u8; 1024];
     let mut rows = [0u8; 1024];
     let mut keys = [0u8; 128];
-    let mut boxes = [0u16; 2688];
+    let mut boxes = [0u16; 5248];
     let mut made = [0u8; 1024];
     closure::start(file, &mut rows, &mut keys);
     let mut i: u16 = 0;

@@ -6,8 +6,7 @@ use Rattle.earlier.proofs.happened.Statement.{statement}
 use Rattle.earlier.proofs.happened.Tie as tie
 
 returns : tie.Need-returns
-returns c =
-    rw (← c .before .before .before .box-for .ensures, lt-ltb _ 128 (c .before .before .if1 .taken)) (c .search .ensures)
+returns c = rw (← c .before .before .before .box-for .ensures, lt-ltb _ 128 (c .before .before .if1 .taken)) (c .search .ensures)
 
 returns-2 : tie.Need-returns-2
 returns-2 c = rw (← c .before .before .box-for .ensures, le-ltb _ 128 (c .before .if1 .left)) (c .search-all .ensures)
@@ -17,10 +16,11 @@ happened-spec =
     tie.close
     (tie.spec
     (λ c κs. search needs)
-    (λ c. search needs)
-    (λ c. search needs)
-    (λ c. search needs)
     (λ c κs. search needs)
-    (λ c κs. search needs)
+    (λ c. search needs)
+    (λ c. search needs)
+    (λ c. search needs)
+    (λ c κs. c .before .before .before .look-for .ensures)
+    (λ c κs. c .before .before .look-for .ensures)
     returns
     returns-2)

@@ -7,27 +7,25 @@ use native.Mathlib.Omega.{arith}
 use denote.Ref.{now}
 use lib.ListN.{getD}
 use borrow.Author.Count.{below-none, below-more}
-use borrow.Author.Needs.{needs}
 use Rattle.trace.proofs.First.{any-some, any-none}
-use Rattle.earlier.specs.Earlier.{heardAt, fitsIn}
-use Rattle.earlier.specs.Boxes.{chainFrom, some}
+use Rattle.earlier.specs.Boxes.{chainFrom, some, fitsAt}
+use borrow.Author.Needs.{needs}
 use Rattle.earlier.proofs.boxes.search_all.Statement.{statement}
 use Rattle.earlier.proofs.boxes.search_all.Tie as tie
 
 abbrev Inv-loop : tie.InvT-loop
-Inv-loop file boxes wanted b₀ b =
-    (b ≤ 64) ×
-    ((k : ℕ) → k < b → some (λ (j : ℕ). fitsIn file wanted (heardAt file j)) (chainFrom boxes (getD boxes k 0)) ≡ false)
+Inv-loop file boxes wanted look b₀ b =
+    (b ≤ 64) × ((k : ℕ) → k < b → some (fitsAt file boxes wanted) (chainFrom boxes (getD boxes k 0)) ≡ false)
 
 abbrev μ-loop : tie.MeasureT-loop
-μ-loop file boxes wanted b₀ b = 64 - b
+μ-loop file boxes wanted look b₀ b = 64 - b
 
 returns : tie.Need-returns Inv-loop μ-loop
 returns c =
     let a = c .before .before .before .before .before .before .args in
     let l = c .before .before .before .before .loop in
     sym
-    (any-some (λ (k : ℕ). some (λ (j : ℕ). fitsIn (now (a .file)) (a .wanted) (heardAt (now (a .file)) j)) (chainFrom (now (a .boxes)) (getD (now (a .boxes)) k 0)))
+    (any-some (λ (k : ℕ). some (fitsAt (now (a .file)) (now (a .boxes)) (a .wanted)) (chainFrom (now (a .boxes)) (getD (now (a .boxes)) k 0)))
     64 (l .b) (c .before .before .before .loop-test .taken) (sym (c .before .search .ensures) ∙ c .if1 .taken))
 
 loop-again : tie.Need-loop-again Inv-loop μ-loop
@@ -41,7 +39,7 @@ returns-2 c =
     let l = c .before .loop in
     let q : l .b ≡ 64 = omega (arith, l .inv .0, c .loop-test .left) in
     sym
-    (any-none (λ (k : ℕ). some (λ (j : ℕ). fitsIn (now (a .file)) (a .wanted) (heardAt (now (a .file)) j)) (chainFrom (now (a .boxes)) (getD (now (a .boxes)) k 0)))
+    (any-none (λ (k : ℕ). some (fitsAt (now (a .file)) (now (a .boxes)) (a .wanted)) (chainFrom (now (a .boxes)) (getD (now (a .boxes)) k 0)))
     64 (rw q at (l .inv .1)))
 
 pub search-all-spec : {M : Type 1} → statement M
@@ -54,7 +52,7 @@ search-all-spec =
     (λ c. omega arith)
     (λ c. omega arith)
     (λ c. omega arith)
-    (λ c κs. tt)
+    (λ c κs. c .before .before .before .before .pre)
     returns
     (λ c. omega arith)
     (λ c. omega arith)
