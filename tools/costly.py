@@ -17,7 +17,7 @@ NUMBER, NONCE, PRF, SESSION, HASH, CRYPT, PAIR = 1, 2, 3, 6, 7, 8, 9
 SPY, CLIENT, SERVER = 0, 2, 3
 # what the rows of that handshake are
 NA, NB, SECRET, MASTER, SID, HELLO_END, REPLY_END, REST, SERVER_KEY = 0, 1, 2, 3, 4, 8, 11, 29, 34
-PA, CLIENT_ROW, SERVER_END = 5, 7, 24
+PA, CLIENT_ROW, SERVER_PUBLIC, SERVER_END = 5, 7, 13, 24
 FINISHED, SERVER_FINISHED, ACCEPTED, RESUMED = 6, 7, 8, 13
 
 
@@ -84,6 +84,29 @@ def told():
     write("told_often", rows, filled(events0[:9] + learnt + junk, events0[ACCEPTED]), [SERVER])
 
 
+def secrets():
+    rows, junk = list(rows0), []
+    for i in range(250):
+        junk.append(says(SPY, SERVER, add(rows, CRYPT, SERVER_PUBLIC, add(rows, NUMBER, 40000 + i))))
+    write("like_secrets", rows, filled(events0[:8] + junk, events0[SERVER_FINISHED]))
+
+
+def noted():
+    # the Spy derives keys from every three of the nonces that it has heard
+    rows, opened, derived = list(rows0), [], []
+    nonces = [NA, NB]
+    for i in range(5):
+        nonces.append(add(rows, NONCE, 20000 + i))
+        opened.append(says(CLIENT, SERVER, add(rows, PAIR, CLIENT_ROW, add(rows, PAIR, nonces[-1], HELLO_END))))
+    for m in nonces:
+        for a in nonces:
+            for b in nonces:
+                if len(rows) + 3 <= 1024 and (m, a, b) != (SECRET, NA, NB):
+                    prf = add(rows, PRF, m, a, b)
+                    derived.append(notes(SPY, add(rows, PAIR, prf, add(rows, SESSION, a, b, m))))
+    write("keys_noted", rows, events0[:2] + opened + derived)
+
+
 def losses():
     # many sessions of a few nonces: each key is lost after all Finished were said
     rows, opened, finished, lost = list(rows0), [], [], []
@@ -142,6 +165,8 @@ repeats()
 replies()
 hellos()
 told()
+secrets()
+noted()
 losses()
 bucket()
 chain(505)

@@ -5,6 +5,7 @@ use mathlib.Core.Bool.{Bool, true, false, not, _&&_, _||_, true≢false}
 use mathlib.Core.List.{List}
 use mathlib.Core.Path.{_≡_, refl, sym, _∙_}
 use Rattle.trace.specs.Rows.{choose}
+use Rattle.trace.proofs.Both.{and-true, and-false}
 use Rattle.forms.specs.Forms.{sealedOf, underKey}
 use Rattle.forms.proofs.Keyed.{gated, key-of}
 use Rattle.accepts.proofs.Accepts.{both8}
@@ -16,18 +17,6 @@ unsealed-parts file r server sid a b m na nb =
     (λ t.
     let x = both8 (sealedOf file r .is) sid a b m na nb (choose server (sealedOf file r .server) (not (sealedOf file r .server))) t in
     key-of file r server (x .0) (x .7))
-
-pub and-false : (a : Bool) → (a && false) ≡ false
-and-false true = refl
-and-false false = refl
-
-pub and-true : (a : Bool) → (a && true) ≡ a
-and-true true = refl
-and-true false = refl
-
-pub or-true : (a : Bool) → (a || true) ≡ true
-or-true true = refl
-or-true false = refl
 
 pub or-false : (a : Bool) → (a || false) ≡ a
 or-false true = refl

@@ -12,7 +12,7 @@ use lib.ListN.{length, length-replicate}
 use borrow.Author.Tests.{lt-ltb, le-ltb, eq-eqb, eqb-true}
 use Rattle.trace.specs.First.{any}
 use Rattle.trace.specs.Rows.{choose}
-use Rattle.trace.proofs.Both.{both, refuted}
+use Rattle.trace.proofs.Both.{both, refuted, or-true, and-true, and-false}
 use Rattle.forms.specs.Forms.{sealedOf}
 use Rattle.closure.specs.Closure.{rowMarked, markRow, zeros}
 use Rattle.closure.proofs.Marks.{mark-same, mark-other, mark-room, none-marked}
@@ -25,7 +25,7 @@ use Rattle.earlier.proofs.Chains.{Below, none, more, chain-step, chain-end, cha
 use Rattle.earlier.proofs.Finding.{said-box, by-box, chain-any}
 use Rattle.accepts.specs.Tests.{saidFinished, toldFinished, bothFinished}
 use Rattle.accepts.specs.Hashes.{toldHere, markEvent, markAll, answeredIn, agreedIn, bothIn}
-use Rattle.accepts.proofs.Branches.{or-true, or-false, or-assoc, and-true, and-false, hash-last}
+use Rattle.accepts.proofs.Branches.{or-false, or-assoc, hash-last}
 use Rattle.accepts.proofs.Accepts.{both8}
 
 -- one event's mark

@@ -3,7 +3,7 @@
 use Prim.Native.Nat.{ℕ}
 use mathlib.Core.Bool.{Bool, true, false, true≢false, _&&_}
 use mathlib.Core.List.{List}
-use mathlib.Core.Path.{_≡_, refl, sym, _∙_, subst}
+use mathlib.Core.Path.{_≡_, refl, sym, _∙_}
 use lib.Dec.{eqb}
 use Rattle.paper.specs.Message.{Authority}
 use Rattle.trace.specs.Rows.{rowAt}
@@ -12,15 +12,9 @@ use Rattle.trace.specs.declared.Row.the-variants.{Number, Nonce, Prf, PublicKey
 use Rattle.trace.proofs.Both.{both, both3, both4, refuted}
 use Rattle.forms.specs.Kinds.{agentOf, publicIn, publicOf, privateIn, privateOf, pairIn, pairOf, cryptIn, cryptOf, isNumberRow, isNumber, isNonceRow, isNonce, isKey}
 use Rattle.forms.specs.Forms.{threeOf, fourOf, helloOf, replyOf, keptOf, signedOf, rememberedOf}
-use Rattle.forms.proofs.Flags.{both5, both6}
+use Rattle.forms.proofs.Flags.{Holds, holds, held, both5, both6}
 
 -- two kinds of one row
-data Holds : Bool → Type 0 where
-  holds : Holds true
-
-held : {b : Bool} → b ≡ true → Holds b
-held e = subst Holds (sym e) holds
-
 pair-crypt : (R : Row) → Holds (pairIn R .is) → cryptIn R .is ≡ false
 pair-crypt (Pair x y) holds = refl
 

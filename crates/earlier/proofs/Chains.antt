@@ -10,13 +10,10 @@ use native.Mathlib.Decide.{decLt}
 use lib.Dec.{ltb}
 use borrow.Author.Tests.{lt-ltb, le-ltb}
 use Rattle.trace.specs.Rows.{choose}
+use Rattle.trace.proofs.Both.{or-true}
 use Rattle.trace.proofs.First.{bool-cases}
 use Rattle.earlier.specs.Boxes.{behind, next, chain, chainFrom, some}
 use Rattle.earlier.specs.Kept.{Reach, here, further}
-
-or-true : (a : Bool) → (a || true) ≡ true
-or-true true = refl
-or-true false = refl
 
 -- all of the list lie before e
 pub data Below (e : ℕ) : List ℕ → Type 0 where

@@ -10,7 +10,7 @@ use native.Mathlib.Nat.{mod-lt}
 use native.Mathlib.Decide.{decLt}
 use lib.Dec.{eqb, ltb}
 use lib.ListN.{getD}
-use borrow.Author.Tests.{eqb-true, lt-ltb, le-ltb}
+use borrow.Author.Tests.{eqb-true, lt-ltb, le-ltb, not-true}
 use Rattle.trace.specs.First.{any}
 use Rattle.trace.proofs.First.{any-none, any-some, any-inv, bool-cases}
 use Rattle.trace.proofs.Both.{both, both3, refuted}
@@ -57,11 +57,7 @@ by-box h from to t =
 noted-box : (h : Heard) (from : ℕ) → notedBy h from ≡ true → boxOf h ≡ 64 + from % 64
 noted-box h from t =
     let x = both (not (h .says)) (eqb (h .from) from) t in
-    rw (unsaid (h .says) (x .0), eqb-true (h .from) from (x .1)) refl
-  where
-    unsaid : (b : Bool) → not b ≡ true → b ≡ false
-    unsaid true t = sym t
-    unsaid false t = refl
+    rw (not-true (h .says) (x .0), eqb-true (h .from) from (x .1)) refl
 
 -- what fits lies in the box of what is wanted
 fits-box : (file : List ℕ) (wanted : Wanted) (h : Heard) → boxFor wanted < 128 → fitsIn file wanted h ≡ true → boxOf h ≡ boxFor wanted

@@ -5,9 +5,9 @@ use mathlib.Core.Bool.{Bool, true, false, not, _&&_, true≢false}
 use mathlib.Core.List.{List}
 use mathlib.Core.Path.{_≡_, refl, sym, _∙_, ap}
 use lib.Dec.{eqb, ltb}
-use borrow.Author.Tests.{lt-ltb, eq-eqb, ne-eqb}
+use borrow.Author.Tests.{lt-ltb, eq-eqb, ne-eqb, not-true}
 use Rattle.trace.specs.Rows.{choose}
-use Rattle.trace.proofs.Both.{both, both3, refuted}
+use Rattle.trace.proofs.Both.{both, both3, refuted, and-true, and-false}
 use Rattle.forms.specs.Kinds.{cryptOf, publicOf}
 use Rattle.forms.specs.Forms.{helloOf, replyOf, keptOf, signedOf, rememberedOf}
 use Rattle.forms.specs.declared.leaves.One.{One}
@@ -230,14 +230,6 @@ module _ (file : List ℕ) (r : ℕ) where
       of-second (lookFor (Session from sid a b m)) _ _ (cardWith 0 0 0 0 0) _ (keptOf file r .is) (n .is) false (session-kept file r) refl refl refl
 
 -- the card is of a message that is said, or noted
-and-true : (a : Bool) → (a && true) ≡ a
-and-true true = refl
-and-true false = refl
-
-and-false : (a : Bool) → (a && false) ≡ false
-and-false true = refl
-and-false false = refl
-
 swapped : (g : Bool) {p q : Bool} → (g ≡ true → p ≡ q) → (g && p) ≡ (q && g)
 swapped true {p} {q} e = e refl ∙ sym (and-true q)
 swapped false {p} {q} e = sym (and-false q)
@@ -248,11 +240,7 @@ module _ (file : List ℕ) (h : Heard) where
 
   noted : (wanted : Wanted) → not (h .says) ≡ true →
       fitsCard (lookFor wanted) (notedWith (keptOf file (h .row)) (rememberedOf file (h .row))) ≡ fitsCard (lookFor wanted) (cardOf file h)
-  noted wanted t = rw (unsaid (h .says) t) refl
-    where
-      unsaid : (b : Bool) → not b ≡ true → b ≡ false
-      unsaid true t = sym t
-      unsaid false t = refl
+  noted wanted t = rw (not-true (h .says) t) refl
 
   to-says : (to : ℕ) → saidTo h to ≡ true → h .says ≡ true
   to-says to t = both (h .says) (eqb (h .to) to) t .0

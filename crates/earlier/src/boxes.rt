@@ -27,7 +27,7 @@ const AGENTS: u16 = 64;
 
 const NOTES: u16 = 64;
 
-pub const BOXES: usize = 128;
+pub(crate) const BOXES: usize = 128;
 
 const EVENTS: u16 = 512;
 
@@ -59,7 +59,7 @@ fn box_of(h: Heard) -> u16
 }
 
 // The box of all that is wanted; what lies under a key can be in any, and has none.
-pub fn box_for(wanted: Wanted) -> u16
+pub(crate) fn box_for(wanted: Wanted) -> u16
     ensures { λ b. ⌜ b ≡ boxFor wanted ⌝ }
 {
     match wanted {

@@ -1,8 +1,15 @@
--- Longer conjunctions of flags: each of them is true.
+-- Flags that are true: as an index, and each of a longer conjunction.
 -- Assumes nothing.
 use mathlib.Core.Bool.{Bool, true, _&&_}
-use mathlib.Core.Path.{_≡_}
+use mathlib.Core.Path.{_≡_, sym, subst}
 use Rattle.trace.proofs.Both.{both, both4}
+
+-- only `true` holds, so that a case by it leaves only the rows whose flag is true
+pub data Holds : Bool → Type 0 where
+  holds : Holds true
+
+pub held : {b : Bool} → b ≡ true → Holds b
+held e = subst Holds (sym e) holds
 
 pub both5 : (a b c d e : Bool) → (a && b && c && d && e) ≡ true → (a ≡ true) × (b ≡ true) × (c ≡ true) × (d ≡ true) × (e ≡ true)
 both5 a b c d e e₁ =

@@ -3,7 +3,7 @@
 use Prim.Native.Nat.{ℕ, _<_}
 use mathlib.Core.Bool.{Bool, true}
 use mathlib.Core.List.{List}
-use mathlib.Core.Path.{_≡_, refl, sym, _∙_, subst}
+use mathlib.Core.Path.{_≡_, refl, _∙_}
 use native.Mathlib.Omega.{arith}
 use Rattle.paper.specs.Message as paper
 use Rattle.trace.specs.File.{rowsOf, agentLimit}
@@ -15,13 +15,8 @@ use Rattle.trace.specs.declared.Role.{Role}
 use Rattle.trace.specs.declared.Role.the-variants.{Client, Server}
 use Rattle.trace.specs.declared.Row.{Row}
 use Rattle.forms.specs.Kinds.{serverIn, agentIn, agentOf, publicIn, publicOf, privateIn, privateOf, hashIn, hashOf, pairIn, pairOf, cryptIn, cryptOf, prfIn, prfOf, sessionIn, sessionOf, isNumberRow, isNumber, isNonceRow, isNonce, isPlainRow, isPlain, isKeyRow, isKey}
+use Rattle.forms.proofs.Flags.{Holds, holds, held}
 use Rattle.forms.specs.Shapes.{roleNamed, Row-holds, IsAgent, IsPublic, IsPrivate, IsHash, IsPair, IsCrypt, IsPrf, IsSession}
-
-data Holds : Bool → Type 0 where
-  holds : Holds true
-
-held : {b : Bool} → b ≡ true → Holds b
-held e = subst Holds (sym e) holds
 
 role-named : (o : Role) → roleNamed (serverIn o) ≡ roleMeant o
 role-named Client = refl

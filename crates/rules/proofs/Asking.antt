@@ -10,14 +10,11 @@ use lib.Dec.{ltb, leb}
 use borrow.Author.Tests.{ltb-true, lt-ltb, le-ltb, le-leb, lt-leb}
 use lib.ListN.{set}
 use Rattle.trace.specs.Rows.{rowAt}
+use Rattle.trace.proofs.Both.{or-true}
 use Rattle.trace.proofs.First.{lt-suc}
 use Rattle.closure.specs.Closure.{rowMarked}
 use Rattle.rules.specs.declared.synth.Parts.{Parts}
 use Rattle.rules.specs.Making.{Made, told, partsOf, madeBelow, madeLast, makeThen, makeBoth, makeWith, makeRow}
-
-or-true : (a : Bool) → (a || true) ≡ true
-or-true true = refl
-or-true false = refl
 
 module _ (go go′ : List ℕ → ℕ → Made) (row : ℕ) (same : (ms : List ℕ) (x : ℕ) → x < row → go ms x ≡ go′ ms x) where
   below-same : (ms : List ℕ) (x : ℕ) → madeBelow go ms row x ≡ madeBelow go′ ms row x

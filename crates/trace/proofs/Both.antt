@@ -1,6 +1,6 @@
--- A conjunction of tests that passes: each of them passes.
+-- Tests joined: of a conjunction that passes each passes, and what a test that is known leaves.
 -- Assumes nothing.
-use mathlib.Core.Bool.{Bool, true, false, _&&_, true≢false}
+use mathlib.Core.Bool.{Bool, true, false, _&&_, _||_, true≢false}
 use mathlib.Core.Path.{_≡_, refl, sym}
 
 pub both : (a b : Bool) → (a && b) ≡ true → (a ≡ true) × (b ≡ true)
@@ -23,3 +23,15 @@ both4 a b c d e =
 pub refuted : (b : Bool) → ¬ (b ≡ true) → b ≡ false
 refuted true n = absurd (n refl)
 refuted false n = refl
+
+pub and-true : (a : Bool) → (a && true) ≡ a
+and-true true = refl
+and-true false = refl
+
+pub and-false : (a : Bool) → (a && false) ≡ false
+and-false true = refl
+and-false false = refl
+
+pub or-true : (a : Bool) → (a || true) ≡ true
+or-true true = refl
+or-true false = refl

@@ -10,14 +10,11 @@ use lib.Dec.{ltb, leb}
 use borrow.Author.Tests.{ltb-true, lt-ltb, le-ltb, le-leb, lt-leb}
 use lib.ListN.{set}
 use Rattle.trace.specs.Rows.{rowAt}
+use Rattle.trace.proofs.Both.{or-true}
 use Rattle.trace.proofs.First.{lt-suc}
 use Rattle.closure.specs.Closure.{rowMarked}
 use Rattle.used.specs.Marking.{partsOf, usedBelow, useWith, useRow}
 use Rattle.used.specs.declared.Halves.{Halves}
-
-or-true : (a : Bool) → (a || true) ≡ true
-or-true true = refl
-or-true false = refl
 
 module _ (go go′ : List ℕ → ℕ → List ℕ) (row : ℕ) (same : (ms : List ℕ) (x : ℕ) → x < row → go ms x ≡ go′ ms x) where
   below-same : (ms : List ℕ) (x : ℕ) → usedBelow go ms row x ≡ usedBelow go′ ms row x

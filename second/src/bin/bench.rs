@@ -14,6 +14,9 @@ use std::time::{Duration, Instant};
 const DEFAULT_DIRECTORY: &str = concat!(env!("CARGO_MANIFEST_DIR"), "/../../shared/bench");
 /// About how long one question to one program is repeated.
 const TIME_PER_MEDIAN: Duration = Duration::from_millis(60);
+/// How long a reading of the clock has to cover at least: short calls are timed several at once,
+/// since the clock itself takes as long as one of them.
+const TIME_PER_READING: Duration = Duration::from_micros(50);
 const MIN_RUNS: usize = 9;
 const MAX_RUNS: usize = 2001;
 /// What the lent buffers hold before each call.
@@ -30,9 +33,10 @@ fn main() {
         "{MAX_EVENTS} bytes (verdict) or {MAX_ROWS} bytes (knowledge, after all events) that is"
     );
     println!(
-        "filled with {FILLING:#x} before the call, outside the clock. A ratio says how many times"
+        "filled with {FILLING:#x} before the call, outside the clock. Calls shorter than {} microseconds",
+        TIME_PER_READING.as_micros()
     );
-    println!("longer this program takes than the archive.\n");
+    println!("are timed several at once. A ratio says how many times longer this program takes than the archive.\n");
     println!("| file | bytes | reply | verdict: archive | this | ratio | knowledge: archive | this | ratio |");
     println!("|---|--:|---|--:|--:|--:|--:|--:|--:|");
     for (name, file) in &files {
@@ -140,19 +144,27 @@ impl std::fmt::Display for Times {
     }
 }
 
-/// The median time of one call, over an odd number of calls.
+/// The median time of one call, over an odd number of readings of the clock.
 fn median<T>(length: usize, mut call: impl FnMut(&mut [u8]) -> T) -> f64 {
     let mut buffer = vec![FILLING; length];
-    let mut timed = || {
+    let mut timed = |calls: usize| {
         buffer.fill(FILLING);
         let start = Instant::now();
-        black_box(call(black_box(&mut buffer)));
+        for _ in 0..calls {
+            black_box(call(black_box(&mut buffer)));
+        }
         start.elapsed()
     };
-    let first = timed().max(Duration::from_nanos(50));
+    timed(1);
+    let mut calls = 1;
+    let mut first = timed(calls);
+    while first < TIME_PER_READING {
+        calls *= 2;
+        first = timed(calls);
+    }
     let runs = (TIME_PER_MEDIAN.as_nanos() / first.as_nanos()) as usize;
     let runs = runs.clamp(MIN_RUNS, MAX_RUNS) | 1;
-    let mut times: Vec<Duration> = (0..runs).map(|_| timed()).collect();
+    let mut times: Vec<Duration> = (0..runs).map(|_| timed(calls)).collect();
     times.sort();
-    times[runs / 2].as_secs_f64() * 1e6
+    times[runs / 2].as_secs_f64() * 1e6 / calls as f64
 }
