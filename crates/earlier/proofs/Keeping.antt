@@ -16,6 +16,7 @@ use borrow.Author.Tests.{eqb-true, lt-ltb, ltb-true}
 use Rattle.trace.specs.Rows.{choose}
 use Rattle.trace.proofs.First.{lt-suc, bool-cases}
 use Rattle.trace.proofs.Both.{both3, both4}
+use Rattle.trace.proofs.Chain.{zeros}
 use Rattle.earlier.specs.declared.Heard.{Heard}
 use Rattle.earlier.specs.declared.cards.Card.{Card}
 use Rattle.earlier.specs.Earlier.{heardAt, sameHeard}
@@ -46,11 +47,6 @@ same-heard h g t =
     let pt : h .to ≡ g .to = eqb-true _ _ (x .2) in
     let pr : h .row ≡ g .row = eqb-true _ _ (x .3) in
     λ i. record { says = ps i; from = pf i; to = pt i; row = pr i }
-
-zeros : (n i : ℕ) → _≡_ {A = ℕ} (getD (replicate n 0) i 0) 0
-zeros zero i = refl
-zeros (suc n) zero = refl
-zeros (suc n) (suc i) = zeros n i
 
 none-linked : (file : List ℕ) → Linked file (replicate 5248 0) 0
 none-linked file =

@@ -6,11 +6,15 @@ use trace::rows::Fields;
 use trace::rows::fields_at;
 ghost use mathlib.Core.Path.{_≡_};
 ghost use Prim.Native.Nat.{_≤_, _<_};
+ghost use lib.ListN.{getD};
 ghost use Rattle.trace.specs.First.{first};
+ghost use Rattle.trace.specs.Rows.{fieldsAt};
 ghost use Rattle.trace.specs.Refusal.{badRow, repeatedRow, badEvent, sameFields};
-ghost use Rattle.trace.specs.Chain.{bucketOf, Down, Searched};
+ghost use Rattle.trace.specs.Chain.{bucketOf, tagOf, Tagged, Down, Searched};
 
 const BUCKETS: usize = 1024;
+
+const HALF: u32 = 0x10000;
 
 // The lowest row that breaks its kind's line, or `rows`.
 pub fn first_bad_row(file: &[u8], rows: u16) -> u16
@@ -64,16 +68,37 @@ fn bucket(f: Fields) -> usize
         % BUCKETS
 }
 
+// Two of the five numbers, as one: rows of a usual file that share a bucket rarely share both.
+fn tag(f: Fields) -> u32
+    ensures { λ t. ⌜ t ≡ tagOf f ⌝ }
+{
+    (f.first as u32) + HALF * (f.second as u32)
+}
+
+// Whether the row has these fields. It is read only where its tag is theirs.
+fn same_row(file: &[u8], tags: &[u32; 1024], row: u16, f: Fields) -> bool
+    requires { ⌜ row < 1024 ⌝ }
+    requires { ⌜ getD (now tags) row 0 ≡ tagOf (fieldsAt (now file) row) ⌝ }
+    ensures { λ b. ⌜ b ≡ sameFields (fieldsAt (now (file .entry)) row) f ⌝ }
+{
+    let wanted = tag(f);
+    if tags[row as usize] != wanted {
+        return false;
+    }
+    same_fields(fields_at(file, row), f)
+}
+
 // Whether a row of the chain has these fields. A chain's link is one more than a row's number, and 0 at the end.
-fn in_chain(file: &[u8], nexts: &[u16; 1024], head: u16, f: Fields) -> bool
+fn in_chain(file: &[u8], nexts: &[u16; 1024], tags: &[u32; 1024], head: u16, f: Fields) -> bool
     requires { ⌜ Down (now nexts) ⌝ }
+    requires { ⌜ Tagged (now file) (now tags) head ⌝ }
     requires { ⌜ head ≤ 1024 ⌝ }
     ensures { λ b. ⌜ Searched (now (file .entry)) (now (nexts .entry)) head f b ⌝ }
 {
     let mut link = head;
     while 0 < link {
         let row = link - 1;
-        let same = same_fields(fields_at(file, row), f);
+        let same = same_row(file, tags, row, f);
         if same {
             return true;
         }
@@ -89,15 +114,17 @@ pub fn first_repeated_row(file: &[u8], rows: u16) -> u16
 {
     let mut heads = [0u16; 1024];
     let mut nexts = [0u16; 1024];
+    let mut tags = [0u32; 1024];
     let mut r: u16 = 0;
     while r < rows {
         let f = fields_at(file, r);
         let h = bucket(f);
         let head = heads[h];
-        let repeated = in_chain(file, &nexts, head, f);
+        let repeated = in_chain(file, &nexts, &tags, head, f);
         if repeated {
             return r;
         }
+        tags[r as usize] = tag(f);
         nexts[r as usize] = head;
         r += 1;
         heads[h] = r;

@@ -12,7 +12,7 @@ use mathlib.Core.Bool.{true, false}
 use mathlib.Core.Logic.{⊎-elim}
 use lib.Seq.{getD-set-same, getD-set-other}
 use Rattle.trace.specs.Rows.{fieldsAt}
-use Rattle.trace.specs.Chain.{bucketOf, Down, Searched, Reach, here, further}
+use Rattle.trace.specs.Chain.{bucketOf, tagOf, Tagged, Down, Searched, Reach, here, further}
 use Rattle.trace.specs.Refusal.{sameFields, repeatedRow}
 use Rattle.trace.specs.declared.rows.Fields.{Fields}
 use Rattle.trace.proofs.First.{lt-suc, any-none, any-some}
@@ -30,6 +30,25 @@ reach-next file nexts f link s other e (here q) =
     absurd (other (ap (fieldsAt file) q′ ∙ e))
 reach-next file nexts f link s other e (further l r) = r
 
+-- fields whose tags differ do not pass the test
+pub tags-differ : (f g : Fields) → ¬ (tagOf f ≡ tagOf g) → sameFields f g ≡ false
+tags-differ f g n = refuted _ (λ (e : sameFields f g ≡ true). n (ap tagOf (same-equal f g e)))
+
+pub tagged-none : (file tags : List ℕ) → Tagged file tags 0
+tagged-none file tags = λ j l. absurd (omega arith)
+
+pub tagged-fewer : (file tags : List ℕ) (m n : ℕ) → m ≤ n → Tagged file tags n → Tagged file tags m
+tagged-fewer file tags m n le t = λ j l. t j (omega arith)
+
+module _ (file tags : List ℕ) (r tag : ℕ) (right : tag ≡ tagOf (fieldsAt file r)) (room : r < length tags) (t : Tagged file tags r) where
+  tagged-at : (j : ℕ) → j < r + 1 → Dec (j ≡ r) → getD (set tags r tag) j 0 ≡ tagOf (fieldsAt file j)
+  tagged-at j l (yes e) = rw (e, getD-set-same tags r tag 0 room) right
+  tagged-at j l (no n) = rw (getD-set-other tags r j tag 0 n) (t j (omega (arith, n)))
+
+  -- the tag of row r is put in its place
+  pub tagged-more : Tagged file (set tags r tag) (r + 1)
+  tagged-more = λ j l. tagged-at j l (ℕ-discrete j r)
+
 -- rows below r are chained by bucket
 pub record Chained (file heads nexts : List ℕ) (r : ℕ) : Type 0 where
   pub heads-room : length heads ≡ 1024
@@ -38,7 +57,7 @@ pub record Chained (file heads nexts : List ℕ) (r : ℕ) : Type 0 where
   pub low : (h : ℕ) → getD heads h 0 ≤ r
   pub linked : (s : ℕ) → s < r → Reach nexts (getD heads (bucketOf (fieldsAt file s)) 0) s
 
-zeros : (n h : ℕ) → _≡_ {A = ℕ} (getD (replicate n 0) h 0) 0
+pub zeros : (n h : ℕ) → _≡_ {A = ℕ} (getD (replicate n 0) h 0) 0
 zeros zero h = refl
 zeros (suc n) zero = refl
 zeros (suc n) (suc h) = zeros n h

@@ -11,6 +11,14 @@ use Rattle.trace.specs.declared.rows.Fields.{Fields}
 abbrev pub bucketOf : Fields → ℕ
 bucketOf f = (f .kind * 97 + f .role * 31 + f .first * 7 + f .second * 61 + f .third * 523) % 1024
 
+-- rows whose tags differ are different, and the tag of a row is kept beside its link
+abbrev pub tagOf : Fields → ℕ
+tagOf f = f .first + 65536 * f .second
+
+-- the tags of the rows below n are right
+abbrev pub Tagged : (file tags : List ℕ) → ℕ → Type 0
+Tagged file tags n = (j : ℕ) → j < n → getD tags j 0 ≡ tagOf (fieldsAt file j)
+
 -- links lead to lower rows
 abbrev pub Down : List ℕ → Type 0
 Down nexts = (j : ℕ) → getD nexts j 0 ≤ j

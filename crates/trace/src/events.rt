@@ -5,7 +5,7 @@ use super::RowNo;
 use super::bytes;
 use super::header::ITEM;
 use super::header::ROWS_AT;
-use super::header::header_of;
+use super::header::rows_of;
 ghost use mathlib.Core.Path.{_≡_};
 ghost use Rattle.trace.specs.Events.{partsAt, eventOf};
 
@@ -22,7 +22,7 @@ pub struct Parts {
 pub fn parts_at(file: &[u8], e: u16) -> Parts
     ensures { λ p. ⌜ p ≡ partsAt (now (file .entry)) e ⌝ }
 {
-    let rows = header_of(file).rows;
+    let rows = rows_of(file);
     let at = ROWS_AT + ITEM * (rows as usize) + ITEM * (e as usize);
     if at + ITEM <= file.len() {
         return Parts {

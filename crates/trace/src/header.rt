@@ -1,7 +1,7 @@
 // The contents part, read in one place.
 use super::bytes;
 ghost use mathlib.Core.Path.{_≡_};
-ghost use Rattle.trace.specs.File.{headerOf, compromisedIn};
+ghost use Rattle.trace.specs.File.{headerOf, rowsOf, compromisedIn};
 
 pub const ROWS_AT: usize = 20;
 
@@ -10,6 +10,8 @@ pub const ITEM: usize = 8;
 pub const AGENTS: u16 = 64;
 
 const SET_AT: usize = 4;
+
+const ROW_COUNT_AT: usize = 14;
 
 pub struct Header {
     pub version: u16,
@@ -42,6 +44,13 @@ pub fn header_of(file: &[u8]) -> Header
         events_at: bytes::word_at(file, 16),
         events: bytes::word_at(file, 18),
     }
+}
+
+// The number of rows alone, which every reader of an event needs.
+pub fn rows_of(file: &[u8]) -> u16
+    ensures { λ n. ⌜ n ≡ rowsOf (now (file .entry)) ⌝ }
+{
+    bytes::word_at(file, ROW_COUNT_AT)
 }
 
 pub(crate) fn compromised(file: &[u8], agent: u16) -> bool

@@ -108,7 +108,7 @@ pub fn place(cause: Cause) -> u16
 pub fn row_count(file: &[u8]) -> u16
     ensures { λ n. ⌜ n ≡ rowsOf (now (file .entry)) ⌝ }
 {
-    header::header_of(file).rows
+    header::rows_of(file)
 }
 
 pub fn event_count(file: &[u8]) -> u16

@@ -2,7 +2,7 @@
 use super::Span;
 use super::header::ITEM;
 use super::header::ROWS_AT;
-use super::header::header_of;
+use super::header::rows_of;
 ghost use Prim.Native.Nat.{_+_, _<_};
 ghost use mathlib.Core.Path.{_≡_};
 ghost use lib.Dec.{leb};
@@ -36,7 +36,7 @@ pub fn row_span(file: &[u8], r: u16) -> Span
 pub fn event_span(file: &[u8], e: u16) -> Span
     ensures { λ s. ⌜ s ≡ eventSpan (now (file .entry)) e ⌝ }
 {
-    let rows = header_of(file).rows;
+    let rows = rows_of(file);
     eight_at(file, ROWS_AT + ITEM * (rows as usize) + ITEM * (e as usize))
 }
 

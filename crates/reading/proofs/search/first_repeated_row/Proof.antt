@@ -1,20 +1,20 @@
--- `reading::search::first_repeated_row` meets its contract: rows below r are chained by bucket, and none of them is repeated.
--- Assumes nothing.
+-- `reading::search::first_repeated_row` meets its contract: rows below r are chained by bucket and have their tags,
+-- and none of them is repeated. Assumes nothing.
 use Prim.Native.Nat.{ℕ, _≤_, _<_, _-_}
 use mathlib.Core.Bool.{Bool, false}
 use mathlib.Core.List.{List}
 use mathlib.Core.Path.{_≡_, sym, _∙_, ap}
 use native.Mathlib.Omega.{arith}
 use denote.Ref.{now}
-use lib.ListN.{getD}
+use lib.ListN.{getD, length, length-set, replicate, length-replicate}
 use borrow.Author.Count.{below-none, below-more}
 use borrow.Author.Needs.{needs}
 use Rattle.trace.specs.Rows.{fieldsAt}
 use Rattle.trace.specs.Refusal.{repeatedRow}
-use Rattle.trace.specs.Chain.{bucketOf, Searched}
+use Rattle.trace.specs.Chain.{bucketOf, tagOf, Tagged, Searched}
 use Rattle.trace.specs.declared.rows.Fields.{Fields}
 use Rattle.trace.proofs.First.{first-found, first-none}
-use Rattle.trace.proofs.Chain.{Chained, chained-none, chained-more, not-repeated, is-repeated}
+use Rattle.trace.proofs.Chain.{Chained, chained-none, chained-more, not-repeated, is-repeated, tagged-none, tagged-fewer, tagged-more}
 use Rattle.reading.proofs.search.first_repeated_row.Statement.{statement}
 use Rattle.reading.proofs.search.first_repeated_row.Tie as tie
 
@@ -23,14 +23,15 @@ said : (file nexts : List ℕ) (head : ℕ) {f g : Fields} {b d : Bool} → f �
 said file nexts head e q s = rw (e, q) at s
 
 abbrev Inv-loop : tie.InvT-loop
-Inv-loop file rows heads₀ nexts₀ r₀ heads nexts r =
-    (r ≤ rows) × Chained file heads nexts r × ((k : ℕ) → k < r → repeatedRow file k ≡ false)
+Inv-loop file rows heads₀ nexts₀ tags₀ r₀ heads nexts tags r =
+    (r ≤ rows) × Chained file heads nexts r × ((k : ℕ) → k < r → repeatedRow file k ≡ false) ×
+    (length tags ≡ 1024) × Tagged file tags r
 
 abbrev μ-loop : tie.MeasureT-loop
-μ-loop file rows heads₀ nexts₀ r₀ heads nexts r = rows - r
+μ-loop file rows heads₀ nexts₀ tags₀ r₀ heads nexts tags r = rows - r
 
 loop-holds : tie.Need-loop-holds Inv-loop μ-loop
-loop-holds c = (omega arith, chained-none _, below-none _)
+loop-holds c = (omega arith, chained-none _, below-none _, length-replicate {A = ℕ} 1024 0, tagged-none _ (replicate 1024 0))
 
 fields-at-requires : tie.Need-fields-at-requires Inv-loop μ-loop
 fields-at-requires c κs = search needs
@@ -46,20 +47,33 @@ array-read-head c = omega arith
 
 in-chain-requires : tie.Need-in-chain-requires Inv-loop μ-loop
 in-chain-requires c κs =
-    let chained = c .before .before .before .before .loop .inv .1 in
-    (chained .down, omega (arith, chained .low (c .before .bucket .result)))
+    let l = c .before .before .before .before .before .loop in
+    let low = l .inv .1 .low (c .before .before .bucket .result) in
+    (l .inv .1 .down, (tagged-fewer _ (l .tags) _ (l .r) low (l .inv .4), omega (arith, low)))
 
 returns : tie.Need-returns Inv-loop μ-loop
 returns c =
-    let file = now (c .before .before .before .before .before .before .before .before .args .file) in
-    let l = c .before .before .before .before .before .before .loop in
-    let fields = c .before .before .before .before .fields-at .ensures in
-    let h = c .before .before .before .bucket .result in
-    let bucket : h ≡ bucketOf (fieldsAt file (l .r)) = c .before .before .before .bucket .ensures .0 ∙ ap bucketOf fields in
+    let file = now (c .before .before .before .before .before .before .before .before .before .args .file) in
+    let l = c .before .before .before .before .before .before .before .loop in
+    let fields = c .before .before .before .before .before .fields-at .ensures in
+    let h = c .before .before .before .before .bucket .result in
+    let bucket : h ≡ bucketOf (fieldsAt file (l .r)) = c .before .before .before .before .bucket .ensures .0 ∙ ap bucketOf fields in
     sym
-    (first-found (repeatedRow file) _ (l .r) (c .before .before .before .before .before .loop-test .taken) (l .inv .2)
+    (first-found (repeatedRow file) _ (l .r) (c .before .before .before .before .before .before .loop-test .taken) (l .inv .2)
     (is-repeated file (l .heads) (l .nexts) (l .r) h bucket (l .inv .1)
     (said file (l .nexts) (getD (l .heads) h 0) fields (c .if1 .taken) (c .before .in-chain .ensures))))
+
+tag-requires : tie.Need-tag-requires Inv-loop μ-loop
+tag-requires c κs = search needs
+
+cast-tags : tie.Need-cast-tags Inv-loop μ-loop
+cast-tags c = omega arith
+
+mul-tags : tie.Need-mul-tags Inv-loop μ-loop
+mul-tags c = omega arith
+
+array-write-tags : tie.Need-array-write-tags Inv-loop μ-loop
+array-write-tags c = omega arith
 
 cast-nexts : tie.Need-cast-nexts Inv-loop μ-loop
 cast-nexts c = omega arith
@@ -84,16 +98,19 @@ loop-less c = omega arith
 
 loop-again : tie.Need-loop-again Inv-loop μ-loop
 loop-again c =
-    let file = now (c .before .before .before .before .before .before .before .before .args .file) in
-    let l = c .before .before .before .before .before .before .loop in
-    let fields = c .before .before .before .before .fields-at .ensures in
-    let h = c .before .before .before .bucket .result in
-    let bucket : h ≡ bucketOf (fieldsAt file (l .r)) = c .before .before .before .bucket .ensures .0 ∙ ap bucketOf fields in (
+    let file = now (c .before .before .before .before .before .before .before .before .before .before .args .file) in
+    let l = c .before .before .before .before .before .before .before .before .loop in
+    let fields = c .before .before .before .before .before .before .fields-at .ensures in
+    let h = c .before .before .before .before .before .bucket .result in
+    let bucket : h ≡ bucketOf (fieldsAt file (l .r)) = c .before .before .before .before .before .bucket .ensures .0 ∙ ap bucketOf fields in
+    let tag : c .tag .result ≡ tagOf (fieldsAt file (l .r)) = c .tag .ensures ∙ ap tagOf fields in (
       omega arith,
       chained-more file (l .heads) (l .nexts) (l .r) h bucket (l .inv .1) (omega arith),
       below-more _ _ (l .inv .2)
           (not-repeated file (l .heads) (l .nexts) (l .r) h bucket (l .inv .1)
-          (said file (l .nexts) (getD (l .heads) h 0) fields (c .if1 .left) (c .before .in-chain .ensures))),
+          (said file (l .nexts) (getD (l .heads) h 0) fields (c .before .if1 .left) (c .before .before .in-chain .ensures))),
+      length-set (l .tags) _ _ ∙ l .inv .3,
+      tagged-more file (l .tags) (l .r) _ tag (omega (arith, l .inv .3)) (l .inv .4),
     )
 
 returns-2 : tie.Need-returns-2 Inv-loop μ-loop
@@ -116,6 +133,10 @@ first-repeated-row-spec =
     array-read-head
     in-chain-requires
     returns
+    tag-requires
+    cast-tags
+    mul-tags
+    array-write-tags
     cast-nexts
     mul-nexts
     array-write-nexts

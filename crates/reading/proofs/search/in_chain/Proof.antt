@@ -2,10 +2,9 @@
 -- Links fall, so the loop ends. Assumes nothing.
 use Prim.Native.Nat.{ℕ, _≤_, _-_}
 use mathlib.Core.Bool.{true≢false}
-use mathlib.Core.Path.{_≡_, sym, _∙_}
+use mathlib.Core.Path.{_≡_, refl, sym, _∙_}
 use native.Mathlib.Omega.{arith}
 use denote.Ref.{now}
-use borrow.Author.Needs.{needs}
 use Rattle.trace.specs.Rows.{fieldsAt}
 use Rattle.trace.specs.Chain.{Reach}
 use Rattle.trace.proofs.Same.{same-equal, differ}
@@ -14,10 +13,10 @@ use Rattle.reading.proofs.search.in_chain.Statement.{statement}
 use Rattle.reading.proofs.search.in_chain.Tie as tie
 
 abbrev Inv-loop : tie.InvT-loop
-Inv-loop file nexts head f link₀ link = (link ≤ head) × ((s : ℕ) → Reach nexts head s → fieldsAt file s ≡ f → Reach nexts link s)
+Inv-loop file nexts tags head f link₀ link = (link ≤ head) × ((s : ℕ) → Reach nexts head s → fieldsAt file s ≡ f → Reach nexts link s)
 
 abbrev μ-loop : tie.MeasureT-loop
-μ-loop file nexts head f link₀ link = link
+μ-loop file nexts tags head f link₀ link = link
 
 loop-holds : tie.Need-loop-holds Inv-loop μ-loop
 loop-holds c = (omega arith, λ s r e. r)
@@ -25,22 +24,17 @@ loop-holds c = (omega arith, λ s r e. r)
 sub-row : tie.Need-sub-row Inv-loop μ-loop
 sub-row c = omega arith
 
-fields-at-requires : tie.Need-fields-at-requires Inv-loop μ-loop
-fields-at-requires c κs = search needs
-
-same-fields-requires : tie.Need-same-fields-requires Inv-loop μ-loop
-same-fields-requires c κs = search needs
+same-row-requires : tie.Need-same-row-requires Inv-loop μ-loop
+same-row-requires c κs =
+    let start = c .before .before .before in
+    let link = c .before .loop .link in
+    (omega arith, start .pre .1 .0 (link - 1) (omega arith))
 
 returns : tie.Need-returns Inv-loop μ-loop
 returns c =
-    let link = c .before .before .before .before .loop .link in
+    let link = c .before .before .before .loop .link in
     record {
-      hit = λ _. (
-        link - 1,
-        omega arith,
-        sym (c .before .before .fields-at .ensures) ∙
-            same-equal _ _ (sym (c .before .same-fields .ensures) ∙ c .if1 .taken),
-      );
+      hit = λ _. (link - 1, omega arith, same-equal _ _ (sym (c .before .same-row .ensures) ∙ c .if1 .taken));
       missed = λ e. absurd (true≢false e);
     }
 
@@ -55,15 +49,15 @@ element-copy-out-link c = omega arith
 
 loop-less : tie.Need-loop-less Inv-loop μ-loop
 loop-less c =
-    let start = c .before .before .before .before .before .before .before in
-    let link = c .before .before .before .before .before .loop .link in
+    let start = c .before .before .before .before .before .before in
+    let link = c .before .before .before .before .loop .link in
     omega (arith, start .pre .0 (link - 1))
 
 loop-again : tie.Need-loop-again Inv-loop μ-loop
 loop-again c =
-    let start = c .before .before .before .before .before .before .before in
-    let l = c .before .before .before .before .before .loop in
-    let other = differ (start .args .f) (c .before .before .before .fields-at .ensures) (c .before .before .same-fields .ensures) (c .before .if1 .left) in (
+    let start = c .before .before .before .before .before .before in
+    let l = c .before .before .before .before .loop in
+    let other = differ (start .args .f) refl (c .before .before .same-row .ensures) (c .before .if1 .left) in (
       omega (arith, start .pre .0 (l .link - 1)),
       λ s r e. reach-next (now (start .args .file)) _ (start .args .f) (l .link) s other e (l .inv .1 s r e),
     )
@@ -84,8 +78,7 @@ in-chain-spec =
     μ-loop
     loop-holds
     sub-row
-    fields-at-requires
-    same-fields-requires
+    same-row-requires
     returns
     cast-link
     mul-link

@@ -4,8 +4,8 @@ use borrow.Author.Needs.{needs}
 use Rattle.trace.proofs.events.parts_at.Statement.{statement}
 use Rattle.trace.proofs.events.parts_at.Tie as tie
 
-header-of-requires : tie.Need-header-of-requires
-header-of-requires c κs = search needs
+rows-of-requires : tie.Need-rows-of-requires
+rows-of-requires c κs = search needs
 
 cast-at : tie.Need-cast-at
 cast-at c = search needs
@@ -67,7 +67,7 @@ returns c =
       c .before .before .before .byte-in3 .ensures .0,
       c .before .before .before .before .byte-in2 .ensures .0,
       c .before .before .before .before .before .byte-in .ensures .0,
-      c .before .before .before .before .before .before .before .header-of .ensures,
+      c .before .before .before .before .before .before .before .rows-of .ensures,
     )
 
 byte-at-requires : tie.Need-byte-at-requires
@@ -112,14 +112,14 @@ returns-2 c =
       c .before .before .before .byte-at3 .ensures .0,
       c .before .before .before .before .byte-at2 .ensures .0,
       c .before .before .before .before .before .byte-at .ensures .0,
-      c .before .before .before .before .before .before .before .header-of .ensures,
+      c .before .before .before .before .before .before .before .rows-of .ensures,
     )
 
 pub parts-at-spec : {M : Type 1} → statement M
 parts-at-spec =
     tie.close
     (tie.spec
-    header-of-requires
+    rows-of-requires
     cast-at
     mul-at
     add-at

@@ -5,7 +5,7 @@ use Rattle.trace.proofs.parts.event_span.Statement.{statement}
 use Rattle.trace.proofs.parts.event_span.Tie as tie
 
 returns : tie.Need-returns
-returns c = rw (c .before .header-of .ensures) at (c .eight-at .ensures)
+returns c = rw (c .before .rows-of .ensures) at (c .eight-at .ensures)
 
 pub event-span-spec : {M : Type 1} → statement M
 event-span-spec =
