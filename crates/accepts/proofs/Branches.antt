@@ -18,10 +18,6 @@ unsealed-parts file r server sid a b m na nb =
     let x = both8 (sealedOf file r .is) sid a b m na nb (choose server (sealedOf file r .server) (not (sealedOf file r .server))) t in
     key-of file r server (x .0) (x .7))
 
-pub or-false : (a : Bool) → (a || false) ≡ a
-or-false true = refl
-or-false false = refl
-
 pub or-assoc : (a b c : Bool) → ((a || b) || c) ≡ (a || (b || c))
 or-assoc true b c = refl
 or-assoc false b c = refl

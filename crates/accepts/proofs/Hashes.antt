@@ -12,7 +12,7 @@ use lib.ListN.{length, length-replicate}
 use borrow.Author.Tests.{lt-ltb, le-ltb, eq-eqb, eqb-true}
 use Rattle.trace.specs.First.{any}
 use Rattle.trace.specs.Rows.{choose}
-use Rattle.trace.proofs.Both.{both, refuted, or-true, and-true, and-false}
+use Rattle.trace.proofs.Both.{both, refuted, or-true, or-none, and-true, and-false}
 use Rattle.forms.specs.Forms.{sealedOf}
 use Rattle.closure.specs.Closure.{rowMarked, markRow, zeros}
 use Rattle.closure.proofs.Marks.{mark-same, mark-other, mark-room, none-marked}
@@ -25,13 +25,13 @@ use Rattle.earlier.proofs.Chains.{Below, none, more, chain-step, chain-end, cha
 use Rattle.earlier.proofs.Finding.{said-box, by-box, chain-any}
 use Rattle.accepts.specs.Tests.{saidFinished, toldFinished, bothFinished}
 use Rattle.accepts.specs.Hashes.{toldHere, markEvent, markAll, answeredIn, agreedIn, bothIn}
-use Rattle.accepts.proofs.Branches.{or-false, or-assoc, hash-last}
+use Rattle.accepts.proofs.Branches.{or-assoc, hash-last}
 use Rattle.accepts.proofs.Accepts.{both8}
 
 -- one event's mark
 mark-if : (marks : List ℕ) → length marks ≡ 1024 → (t : Bool) (r x : ℕ) → x < 1024 →
     rowMarked (choose t (markRow marks r) marks) x ≡ (rowMarked marks x || (t && eqb r x))
-mark-if marks room false r x l = rw (or-false (rowMarked marks x)) refl
+mark-if marks room false r x l = rw (or-none (rowMarked marks x)) refl
 mark-if marks room true r x l = go (ℕ-discrete x r)
   where
     go : Dec (x ≡ r) → rowMarked (markRow marks r) x ≡ (rowMarked marks x || eqb r x)
@@ -39,7 +39,7 @@ mark-if marks room true r x l = go (ℕ-discrete x r)
         rw (eq-eqb r x (sym q), or-true (rowMarked marks x))
         (rw q (mark-same marks room r (rw q at l)))
     go (no n) =
-        rw (refuted (eqb r x) (λ t. n (sym (eqb-true r x t))), or-false (rowMarked marks x))
+        rw (refuted (eqb r x) (λ t. n (sym (eqb-true r x t))), or-none (rowMarked marks x))
         (mark-other marks room r x n)
 
 mark-length : (marks : List ℕ) → length marks ≡ 1024 → (t : Bool) (r : ℕ) → length (choose t (markRow marks r) marks) ≡ 1024
@@ -112,7 +112,7 @@ module _ (file : List ℕ) (server : Bool) (to : ℕ) where
     all-marked : {js : List ℕ} → Below e js → (marks : List ℕ) → length marks ≡ 1024 → (x : ℕ) → x < 1024 →
         rowMarked (markAll file boxes server to js marks) x ≡ (rowMarked marks x || some (λ j. toldFinished file (heardAt file j) server to x) js)
     unfolding markAll some
-    all-marked none marks room x l = sym (or-false (rowMarked marks x))
+    all-marked none marks room x l = sym (or-none (rowMarked marks x))
     all-marked (more {j} {js} m b) marks room x l =
         let room′ = mark-length marks room (saidTo (heardAt file j) to && ltb 0 (sealAt boxes server j)) (sealAt boxes server j - 1) in
         all-marked b (markEvent file boxes server to j marks) room′ x l ∙

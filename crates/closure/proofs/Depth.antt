@@ -3,24 +3,21 @@
 use Prim.Native.Nat.{ℕ, zero, suc, _<_, _≤_}
 use mathlib.Core.Bool.{Bool, true, false, _||_}
 use mathlib.Core.List.{List}
-use mathlib.Core.Logic.{⊎-elim}
+use mathlib.Core.Logic.{_⊎_, inl, inr, ⊎-elim}
 use mathlib.Core.Path.{_≡_, refl, sym, _∙_}
 use native.Mathlib.Omega.{arith}
 use native.Mathlib.Decide.{decLt}
 use lib.Dec.{ltb, leb}
-use borrow.Author.Tests.{ltb-true, lt-ltb, le-ltb, le-leb, lt-leb}
+use borrow.Author.Tests.{ltb-true, lt-ltb, le-ltb, le-leb, lt-leb, ne-eqb}
 use lib.ListN.{set}
-use Rattle.trace.specs.Rows.{choose, rowAt}
+use Rattle.trace.specs.Rows.{kindAt, fieldsAt, rowAt}
 use Rattle.trace.specs.declared.Row.{Row}
-use Rattle.trace.specs.declared.Row.the-variants.{Agent, Number, Nonce, Prf, PublicKey, PrivateKey, SessionKey, Hash, Crypt, Pair}
-use Rattle.trace.proofs.First.{lt-suc}
-use Rattle.trace.proofs.Both.{both}
-use Rattle.closure.specs.Closure.{State, stateOf, rowMarked, knowRow, opens, noSides, sidesOf, opened, below, bothSides, learnWith, learnRow, reopenRow}
+use Rattle.trace.specs.declared.rows.Fields.{Fields}
+use Rattle.trace.proofs.Both.{or-true, or-none}
+use Rattle.trace.proofs.First.{bool-cases, lt-suc}
+use Rattle.closure.specs.Closure.{State, stateOf, rowMarked, knowRow, opens, sidesOf, below, learnWith, learnRow, reopenRow}
 use Rattle.closure.specs.declared.Sides.{Sides}
-
-or-true : (a : Bool) → (a || true) ≡ true
-or-true true = refl
-or-true false = refl
+use Rattle.closure.proofs.Fields.{sides-opened, sides-closed}
 
 abbrev pub Go : Type 0
 Go = List ℕ → List ℕ → ℕ → State
@@ -80,15 +77,11 @@ module _ (file : List ℕ) where
     pub below-left : (x : ℕ) → row ≤ x → stateOf rs ks false ≡ below (learnRow file row) rs ks row x
     below-left x l = rw (le-ltb x row l, below)
 
-    pub reopen-open : rowMarked rs row ≡ true →
-        (sides : Sides) → sides ≡ sidesOf file rs ks row (rowAt file row) →
-        (lr lk : List ℕ) (lf : Bool) → stateOf lr lk lf ≡ below (learnRow file row) rs ks row (sides .left) →
-        (rr rk : List ℕ) (rf : Bool) → stateOf rr rk rf ≡ below (learnRow file row) lr lk row (sides .right) →
-        stateOf rr rk (lf || rf) ≡ reopenRow file rs ks row
-    reopen-open m sides se lr lk lf le rr rk rf re = rw (m, reopenRow, ← se, ← le, ← re)
-
+  -- `reopenRow`, case by case
   module _ (rs ks : List ℕ) (row : ℕ) where
-    -- where all that a row can open into is marked, opening it changes nothing
+    no-side : stateOf rs ks false ≡ below (learnRow file row) rs ks row row
+    no-side = below-left rs ks row row (omega arith)
+
     below-marked : (x : ℕ) → rowMarked rs x ≡ true → stateOf rs ks false ≡ below (learnRow file row) rs ks row x
     below-marked x m = go (decLt x row)
       where
@@ -96,33 +89,30 @@ module _ (file : List ℕ) where
         go (yes l) = learn-known rs ks x m ∙ below-taken rs ks row x l
         go (no l) = below-left rs ks row x (omega arith)
 
-    no-side : stateOf rs ks false ≡ below (learnRow file row) rs ks row row
-    no-side = below-left rs ks row row (omega arith)
+    pub reopen-unmarked : rowMarked rs row ≡ false → stateOf rs ks false ≡ reopenRow file rs ks row
+    reopen-unmarked u = rw (u, reopenRow) refl
 
-    both-still : (sides : Sides) → stateOf rs ks false ≡ below (learnRow file row) rs ks row (sides .left) →
-        stateOf rs ks false ≡ below (learnRow file row) rs ks row (sides .right) →
-        stateOf rs ks false ≡ bothSides (learnRow file row) rs ks row sides
-    both-still sides l r = rw (← l, ← r) refl
+    module _ (m : rowMarked rs row ≡ true) where
+      pub reopen-other : ¬ (kindAt file row ≡ 8) → stateOf rs ks false ≡ reopenRow file rs ks row
+      reopen-other n = rw (m, ne-eqb (kindAt file row) 8 n, reopenRow) refl
 
-    opened-still : (R : Row) → opened rs R ≡ true → stateOf rs ks false ≡ bothSides (learnRow file row) rs ks row (sidesOf file rs ks row R)
-    opened-still (Agent a) o = both-still (noSides row false) no-side no-side
-    opened-still (Number n) o = both-still (noSides row false) no-side no-side
-    opened-still (Nonce n) o = both-still (noSides row false) no-side no-side
-    opened-still (Prf s x y) o = both-still (noSides row false) no-side no-side
-    opened-still (PublicKey a) o = both-still (noSides row true) no-side no-side
-    opened-still (PrivateKey a) o = both-still (noSides row true) no-side no-side
-    opened-still (SessionKey t x y z) o = both-still (noSides row true) no-side no-side
-    opened-still (Hash x) o = both-still (noSides row false) no-side no-side
-    opened-still (Crypt k x) o = go (opens file rs ks (k .0))
-      where
-        go : (b : Bool) →
-            stateOf rs ks false ≡
-            bothSides (learnRow file row) rs ks row (choose b (record { left = x .0; right = row; key = false }) (noSides row false))
-        go true = both-still (record { left = x .0; right = row; key = false }) (below-marked (x .0) o) no-side
-        go false = both-still (noSides row false) no-side no-side
-    opened-still (Pair x y) o =
-        let b = both (rowMarked rs (x .0)) (rowMarked rs (y .0)) o in
-        both-still (record { left = x .0; right = y .0; key = false }) (below-marked (x .0) (b .0)) (below-marked (y .0) (b .1))
+      module _ (crypt : kindAt file row ≡ 8) (f : Fields) (fe : f ≡ fieldsAt file row) where
+        kind-is : f .kind ≡ 8
+        kind-is = rw fe crypt
 
-    pub reopen-opened : rowMarked rs row ≡ true → opened rs (rowAt file row) ≡ true → stateOf rs ks false ≡ reopenRow file rs ks row
-    reopen-opened m o = rw (m, reopenRow) (opened-still (rowAt file row) o)
+        -- the body is the left side, and there is no right one
+        pub reopen-opens : opens file rs ks (f .first) ≡ true →
+            (rs′ ks′ : List ℕ) (g : Bool) → stateOf rs′ ks′ g ≡ below (learnRow file row) rs ks row (f .second) →
+            stateOf rs′ ks′ g ≡ reopenRow file rs ks row
+        reopen-opens o rs′ ks′ g e =
+            rw (m, crypt, reopenRow, ← fe, ← sides-opened file rs ks f row kind-is o, ← e, ← below-left rs′ ks′ row row (omega arith), or-none g) refl
+
+        pub reopen-closed : opens file rs ks (f .first) ≡ false → stateOf rs ks false ≡ reopenRow file rs ks row
+        reopen-closed o = rw (m, crypt, reopenRow, ← fe, ← sides-closed file rs ks f row kind-is o, ← no-side, ← no-side) refl
+
+        pub reopen-opened : rowMarked rs (f .second) ≡ true → stateOf rs ks false ≡ reopenRow file rs ks row
+        reopen-opened b = go (bool-cases (opens file rs ks (f .first)))
+          where
+            go : (opens file rs ks (f .first) ≡ true) ⊎ (opens file rs ks (f .first) ≡ false) → stateOf rs ks false ≡ reopenRow file rs ks row
+            go (inl o) = reopen-opens o rs ks false (below-marked (f .second) b)
+            go (inr o) = reopen-closed o

@@ -3,8 +3,9 @@
 use Prim.Native.Nat.{ℕ, zero, suc, _+_, _<_, _≤_}
 use mathlib.Core.Bool.{Bool, true, false, _&&_}
 use mathlib.Core.List.{List}
-use mathlib.Core.Path.{_≡_, refl}
+use mathlib.Core.Path.{_≡_, refl, sym, _∙_}
 use native.Mathlib.Omega.{arith}
+use native.Mathlib.Decide.{decLt}
 use lib.Dec.{eqb, leb}
 use borrow.Author.Tests.{ne-eqb}
 use Rattle.trace.specs.Rows.{choose, rowOf}
@@ -12,7 +13,7 @@ use Rattle.trace.specs.declared.Row.{Row}
 use Rattle.trace.specs.declared.Row.the-variants.{Pair}
 use Rattle.trace.specs.declared.rows.Fields.{Fields}
 use Rattle.closure.proofs.Marks.{public-marked, public-known}
-use Rattle.closure.specs.Closure.{rowMarked, keyMarked, know, opens, opensRow, knowRow, noSides, sidesOf, opened, keyKnown}
+use Rattle.closure.specs.Closure.{rowMarked, keyMarked, know, opens, opensRow, knowRow, noSides, sidesOf, keyKnown}
 
 -- what holds of both rows holds of the one that is chosen
 pub either : {A : Type 0} (g : Row → A) (b : Bool) {X Y : Row} {n : A} → n ≡ g X → n ≡ g Y → n ≡ g (choose b X Y)
@@ -120,20 +121,6 @@ module _ (ks : List ℕ) (f : Fields) where
       (either g (eqb (f .kind) 7) refl
       (either g (eqb (f .kind) 8) refl refl)))))))
 
-module _ (rs : List ℕ) (f : Fields) where
-  pub opened-crypt : f .kind ≡ 8 → rowMarked rs (f .second) ≡ opened rs (rowOf f)
-  unfolding rowOf
-  opened-crypt e = rw e refl
-
-  pub opened-pair : 9 ≤ f .kind → (rowMarked rs (f .first) && rowMarked rs (f .second)) ≡ opened rs (rowOf f)
-  opened-pair l = rw (pair-kind f l) refl
-
-  pub opened-none : ¬ (f .kind ≡ 8) → f .kind < 9 → true ≡ opened rs (rowOf f)
-  unfolding rowOf
-  opened-none n l =
-      below-pair (λ k. f .kind ≡ k → true ≡ opened rs (rowOf f)) (λ e. rw e refl) (λ e. rw e refl) (λ e. rw e refl) (λ e. rw e refl) (λ e. rw e refl)
-      (λ e. rw e refl) (λ e. rw e refl) (λ e. rw e refl) (λ e. absurd (n e)) (f .kind) l refl
-
 module _ (file rs ks : List ℕ) (f : Fields) (row : ℕ) where
   pub sides-opened : f .kind ≡ 8 → opens file rs ks (f .first) ≡ true →
       record { left = f .second; right = row; key = false } ≡ sidesOf file rs ks row (rowOf f)
@@ -152,3 +139,12 @@ module _ (file rs ks : List ℕ) (f : Fields) (row : ℕ) where
   sides-none n l =
       below-pair (λ k. f .kind ≡ k → noSides row (leb 4 (f .kind) && leb (f .kind) 6) ≡ sidesOf file rs ks row (rowOf f)) (λ e. rw e refl) (λ e. rw e refl)
       (λ e. rw e refl) (λ e. rw e refl) (λ e. rw e refl) (λ e. rw e refl) (λ e. rw e refl) (λ e. rw e refl) (λ e. absurd (n e)) (f .kind) l refl
+
+-- what a row opens into depends on the state for a Crypt alone
+pub sides-fixed : (file rs ks rs′ ks′ : List ℕ) (f : Fields) (row : ℕ) → ¬ (f .kind ≡ 8) →
+    sidesOf file rs′ ks′ row (rowOf f) ≡ sidesOf file rs ks row (rowOf f)
+sides-fixed file rs ks rs′ ks′ f row n = go (decLt (f .kind) 9)
+  where
+    go : Dec (f .kind < 9) → sidesOf file rs′ ks′ row (rowOf f) ≡ sidesOf file rs ks row (rowOf f)
+    go (yes l) = sym (sides-none file rs′ ks′ f row n l) ∙ sides-none file rs ks f row n l
+    go (no l) = sym (sides-pair file rs′ ks′ f row (omega arith)) ∙ sides-pair file rs ks f row (omega arith)

@@ -1,5 +1,5 @@
 -- What learning does to the state: marks stay, a key row's key is known, and as long as no key became known a row that was closed,
--- or is new, is closed. By induction on the depth, over the sides that a row opens into.
+-- or is new, is closed; a row that is no Crypt even if one did. By induction on the depth, over the sides that a row opens into.
 -- Assumes nothing.
 use Prim.Native.Nat.{ℕ, zero, suc, _+_, _<_, _≤_}
 use mathlib.Core.Bool.{Bool, true, false, _||_, true≢false}
@@ -12,7 +12,7 @@ use lib.Dec.{ltb}
 use lib.ListN.{length, set, length-set}
 use borrow.Author.Tests.{ltb-true, lt-ltb, lt-leb}
 use Rattle.trace.specs.File.{rowsOf}
-use Rattle.trace.specs.Rows.{rowAt}
+use Rattle.trace.specs.Rows.{fieldsAt, kindAt, rowAt}
 use Rattle.trace.specs.Promises.{Promised, Keeps, agent, number, nonce, prf, publicKey, privateKey, sessionKey, hash, crypt, pair}
 use Rattle.trace.specs.declared.Row.{Row}
 use Rattle.trace.specs.declared.Row.the-variants.{Agent, Number, Nonce, Prf, PublicKey, PrivateKey, SessionKey, Hash, Crypt, Pair}
@@ -20,6 +20,7 @@ use Rattle.trace.proofs.First.{bool-cases}
 use Rattle.trace.proofs.Refusal.{or-false, or-false-right}
 use Rattle.closure.specs.Closure.{State, stateOf, rowMarked, knowRow, opensRow, opens, sidesOf, below, bothSides, learnWith, learnRow}
 use Rattle.closure.specs.declared.Sides.{Sides}
+use Rattle.closure.proofs.Fields.{sides-fixed}
 use Rattle.closure.proofs.Marks.{Marked, Known, row-same, row-other, row-keep, know-same, knowRow-keep, knowRow-room}
 
 -- the key of a key row is known
@@ -71,6 +72,7 @@ module _ (file : List ℕ) (P : Promised file) where
         (x : ℕ) → x < rowsOf file → Marked (t .rows) x → Held (t .keys) (rowAt file x)
     pub same : t .fresh ≡ false → (k : ℕ) → k < rowsOf file → opens file (t .rows) (t .keys) k ≡ opens file rs ks k
     pub closed : t .fresh ≡ false → (x : ℕ) → x < rowsOf file → Closed rs ks x → Closed (t .rows) (t .keys) x
+    pub steady : (x : ℕ) → ¬ (kindAt file x ≡ 8) → Closed rs ks x → Closed (t .rows) (t .keys) x
     pub new : t .fresh ≡ true → (x : ℕ) × (x < 1024) × (rowMarked rs x ≡ false) × Marked (t .rows) x
 
   pub grew-still : (rs ks : List ℕ) → length rs ≡ 1024 → length ks ≡ 128 → Grew rs ks (stateOf rs ks false)
@@ -83,6 +85,7 @@ module _ (file : List ℕ) (P : Promised file) where
         held = λ h. h;
         same = λ _ k l. refl;
         closed = λ _ x l c. c;
+        steady = λ x n c. c;
         new = λ e. absurd (true≢false (sym e));
       }
 
@@ -105,6 +108,7 @@ module _ (file : List ℕ) (P : Promised file) where
         held = λ held. h .held (g .held held);
         same = λ e k l. h .same (or-false-right (s .fresh) (t .fresh) e) k l ∙ g .same (or-false (s .fresh) (t .fresh) e) k l;
         closed = λ e x l c. h .closed (or-false-right (s .fresh) (t .fresh) e) x l (g .closed (or-false (s .fresh) (t .fresh) e) x l c);
+        steady = λ x n c. h .steady x n (g .steady x n c);
         new = λ e. ⊎-elim (λ a. from-first (g .new a)) (λ b. from-second (h .new b)) (or-cases (s .fresh) (t .fresh) e);
       }
     where
@@ -129,18 +133,6 @@ module _ (file : List ℕ) (P : Promised file) where
   sides-same rs ks rs′ ks′ same x R l (hash h) = refl
   sides-same rs ks rs′ ks′ same x R l (crypt {k = k} b h) = rw (same (k .0) (omega (arith, b .below)))
   sides-same rs ks rs′ ks′ same x R l (pair a b) = refl
-
-  -- a closed row stays closed where marks grow and `opens` stays
-  closed-keep : (rs ks rs′ ks′ : List ℕ) → ((x : ℕ) → Marked rs x → Marked rs′ x) →
-      ((k : ℕ) → k < rowsOf file → opens file rs′ ks′ k ≡ opens file rs ks k) →
-      (x : ℕ) → x < rowsOf file →
-      (sides-at rs ks x .left < x → Marked rs (sides-at rs ks x .left)) ×
-      (sides-at rs ks x .right < x → Marked rs (sides-at rs ks x .right)) →
-      (sides-at rs′ ks′ x .left < x → Marked rs′ (sides-at rs′ ks′ x .left)) ×
-      (sides-at rs′ ks′ x .right < x → Marked rs′ (sides-at rs′ ks′ x .right))
-  closed-keep rs ks rs′ ks′ grow same x l c =
-      rw (sides-same rs ks rs′ ks′ same x (rowAt file x) l (P .keeps x l))
-      (λ h. grow (sides-at rs ks x .left) (c .0 h), λ h. grow (sides-at rs ks x .right) (c .1 h))
 
   -- marking a row that is no key changes no `opens`
   no-key : (rs ks rs′ ks′ : List ℕ) (row k : ℕ) (R : Row) → sidesOf file rs ks row R .key ≡ false → opensRow rs′ ks′ k R ≡ false
@@ -232,14 +224,26 @@ module _ (file : List ℕ) (P : Promised file) where
     held-t h x l m (no n) =
         held-keep (b .keys) (t .keys) (λ i. knowRow-keep (b .keys) (g .room-keys) R i) (rowAt file x) (g .held h x l (others x n m))
 
-    closed-t : t .fresh ≡ false → (x : ℕ) → x < rowsOf file → Closed rs ks x → Dec (x ≡ row) → Closed (t .rows) (t .keys) x
-    closed-t e x l c (yes q) m =
-        rw q
-        (rw (sides-same rs ks (t .rows) (t .keys) (same-t e) row R in-file (P .keeps row in-file))
-        (λ h. grow (sides-at rs ks row .left) (left h), λ h. grow (sides-at rs ks row .right) (right h)))
-    closed-t e x l c (no n) m =
-        closed-keep (b .rows) (b .keys) (t .rows) (t .keys) grow (λ k _. same-b e k) x l
-        (g .closed (or-false (b .fresh) _ e) x l c (others x n m))
+    -- row's sides were marked before it, and another row is as it was: where their sides stay, both are closed
+    closed-t : (x : ℕ) → sides-at (t .rows) (t .keys) x ≡ sides-at rs ks x → sides-at (t .rows) (t .keys) x ≡ sides-at (b .rows) (b .keys) x →
+        Closed (b .rows) (b .keys) x → Dec (x ≡ row) → Closed (t .rows) (t .keys) x
+    closed-t x e eb c (yes q) m =
+        let e′ : sides-at (t .rows) (t .keys) row ≡ sides-at rs ks row = rw q at e in
+        rw (q, e′) (λ h. grow (sides-at rs ks row .left) (left h), λ h. grow (sides-at rs ks row .right) (right h))
+    closed-t x e eb c (no n) m =
+        let d = c (others x n m) in
+        rw eb (λ h. grow (sides-at (b .rows) (b .keys) x .left) (d .0 h), λ h. grow (sides-at (b .rows) (b .keys) x .right) (d .1 h))
+
+    same-closed : t .fresh ≡ false → (x : ℕ) → x < rowsOf file → Closed rs ks x → Closed (t .rows) (t .keys) x
+    same-closed e x l c =
+        closed-t x (sides-same rs ks (t .rows) (t .keys) (same-t e) x (rowAt file x) l (P .keeps x l))
+        (sides-same (b .rows) (b .keys) (t .rows) (t .keys) (λ k _. same-b e k) x (rowAt file x) l (P .keeps x l))
+        (g .closed (or-false (b .fresh) _ e) x l c) (ℕ-discrete x row)
+
+    steady-closed : (x : ℕ) → ¬ (kindAt file x ≡ 8) → Closed rs ks x → Closed (t .rows) (t .keys) x
+    steady-closed x n c =
+        closed-t x (sides-fixed file rs ks (t .rows) (t .keys) (fieldsAt file x) x n)
+        (sides-fixed file (b .rows) (b .keys) (t .rows) (t .keys) (fieldsAt file x) x n) (g .steady x n c) (ℕ-discrete x row)
 
     grew-mark : Grew rs ks t
     grew-mark =
@@ -250,7 +254,8 @@ module _ (file : List ℕ) (P : Promised file) where
           keys = λ i m. knowRow-keep (b .keys) (g .room-keys) R i (g .keys i m);
           held = λ h x l m. held-t h x l m (ℕ-discrete x row);
           same = same-t;
-          closed = λ e x l c. closed-t e x l c (ℕ-discrete x row);
+          closed = same-closed;
+          steady = steady-closed;
           new = λ e. (row, few, unmarked, row-same (b .rows) (g .room) row few);
         }
 

@@ -6,14 +6,15 @@ use mathlib.Core.List.{List}
 use mathlib.Core.Logic.{_⊎_, inl, inr, ⊎-elim}
 use mathlib.Core.Path.{_≡_, refl, sym, _∙_}
 use native.Mathlib.Omega.{arith}
+use native.Mathlib.Decide.{ℕ-discrete}
 use lib.ListN.{length}
 use Rattle.trace.specs.File.{rowsOf}
-use Rattle.trace.specs.Rows.{choose, rowAt}
+use Rattle.trace.specs.Rows.{choose, kindAt, rowAt}
 use Rattle.trace.specs.Promises.{Promised}
 use Rattle.trace.proofs.Both.{refuted}
 use Rattle.trace.proofs.First.{bool-cases, lt-suc}
 use Rattle.trace.proofs.Refusal.{or-false, or-false-right}
-use Rattle.closure.specs.Closure.{State, stateOf, rowMarked, bothSides, learnRow, reopenRow, upRows, downRows, passRows, settle, seeRow}
+use Rattle.closure.specs.Closure.{State, stateOf, rowMarked, bothSides, learnRow, reopens, reopenRow, upRows, downRows, passRows, settle, seeRow}
 use Rattle.closure.proofs.Marks.{Marked, Known}
 use Rattle.closure.proofs.Grew.{Held, Grew, grew-still, grew-then, sides-at, Closed, closed-same, learns, both-grew}
 
@@ -63,34 +64,37 @@ module _ (file : List ℕ) (P : Promised file) where
   abbrev pub AllClosed : List ℕ → List ℕ → Type 0
   AllClosed rs ks = (x : ℕ) → x < rowsOf file → Closed file P rs ks x
 
+  -- what the way up closes: rows that are no Crypts stay closed by `steady`
+  abbrev CryptsClosed : ℕ → State → Type 0
+  CryptsClosed n t = t .fresh ≡ false → (x : ℕ) → x < n → kindAt file x ≡ 8 → Closed file P (t .rows) (t .keys) x
+
   pub reopen-grew : (rs ks : List ℕ) (r : ℕ) → length rs ≡ 1024 → length ks ≡ 128 → r < rowsOf file →
       Grew file P rs ks (reopenRow file rs ks r) ×
-      (reopenRow file rs ks r .fresh ≡ false → Closed file P (reopenRow file rs ks r .rows) (reopenRow file rs ks r .keys) r)
-  reopen-grew rs ks r rr kr l = go (bool-cases (rowMarked rs r))
+      (reopenRow file rs ks r .fresh ≡ false → kindAt file r ≡ 8 → Closed file P (reopenRow file rs ks r .rows) (reopenRow file rs ks r .keys) r)
+  reopen-grew rs ks r rr kr l = go (bool-cases (reopens file rs r))
     where
-      go : (rowMarked rs r ≡ true) ⊎ (rowMarked rs r ≡ false) →
+      go : (reopens file rs r ≡ true) ⊎ (reopens file rs r ≡ false) →
           Grew file P rs ks (reopenRow file rs ks r) ×
-          (reopenRow file rs ks r .fresh ≡ false → Closed file P (reopenRow file rs ks r .rows) (reopenRow file rs ks r .keys) r)
-      go (inl m) =
+          (reopenRow file rs ks r .fresh ≡ false → kindAt file r ≡ 8 → Closed file P (reopenRow file rs ks r .rows) (reopenRow file rs ks r .keys) r)
+      go (inl o) =
           let b = both-grew file P r (learns file P r) r l (omega arith) rs ks (sides-at file P rs ks r) rr kr in
-          rw (m, reopenRow)
-          (b .0, λ e. closed-same file P rs ks (bothSides (learnRow file r) rs ks r (sides-at file P rs ks r)) (b .0) e r l (b .1) (b .2))
-      go (inr u) = rw (u, reopenRow) (grew-still file P rs ks rr kr, λ e m. absurd (true≢false (sym m ∙ u)))
+          rw (o, reopenRow)
+          (b .0, λ e _. closed-same file P rs ks (bothSides (learnRow file r) rs ks r (sides-at file P rs ks r)) (b .0) e r l (b .1) (b .2))
+      go (inr u) = rw (u, reopenRow) (grew-still file P rs ks rr kr, λ e c m. absurd (true≢false (rw (c, m) at u)))
 
   pub up-grew : (n : ℕ) (rs ks : List ℕ) → n ≤ rowsOf file → length rs ≡ 1024 → length ks ≡ 128 →
-      Grew file P rs ks (upRows file n rs ks) ×
-      (upRows file n rs ks .fresh ≡ false → (x : ℕ) → x < n → Closed file P (upRows file n rs ks .rows) (upRows file n rs ks .keys) x)
+      Grew file P rs ks (upRows file n rs ks) × CryptsClosed n (upRows file n rs ks)
   unfolding upRows
-  up-grew zero rs ks h r k = (grew-still file P rs ks r k, λ e x l. absurd (omega arith))
+  up-grew zero rs ks h r k = (grew-still file P rs ks r k, λ e x l c. absurd (omega arith))
   up-grew (suc n) rs ks h r k =
       let s = upRows file n rs ks in
       let g = up-grew n rs ks (omega arith) r k in
       let t = reopenRow file (s .rows) (s .keys) n in
       let q = reopen-grew (s .rows) (s .keys) n (g .0 .room) (g .0 .room-keys) (omega arith) in (
         grew-then file P (g .0) (q .0),
-        λ e x l.
-            ⊎-elim (λ (lx : x < n). q .0 .closed (or-false-right (s .fresh) (t .fresh) e) x (omega arith) (g .1 (or-false (s .fresh) (t .fresh) e) x lx))
-            (λ (ex : x ≡ n). rw ex (q .1 (or-false-right (s .fresh) (t .fresh) e))) (lt-suc x n l),
+        λ e x l c.
+            ⊎-elim (λ (lx : x < n). q .0 .closed (or-false-right (s .fresh) (t .fresh) e) x (omega arith) (g .1 (or-false (s .fresh) (t .fresh) e) x lx c))
+            (λ (ex : x ≡ n). rw ex (q .1 (or-false-right (s .fresh) (t .fresh) e) (rw ex at c))) (lt-suc x n l),
       )
 
   -- the way down goes on from a state in which a key became known
@@ -109,16 +113,13 @@ module _ (file : List ℕ) (P : Promised file) where
   down-fresh (suc n) rs ks = let s = reopenRow file rs ks n in down-fresh n (s .rows) (s .keys)
 
   pub pass-grew : (n : ℕ) (rs ks : List ℕ) → n ≤ rowsOf file → length rs ≡ 1024 → length ks ≡ 128 →
-      Grew file P rs ks (passRows file n rs ks) ×
-      (passRows file n rs ks .fresh ≡ false → (x : ℕ) → x < n → Closed file P (passRows file n rs ks .rows) (passRows file n rs ks .keys) x)
+      Grew file P rs ks (passRows file n rs ks) × CryptsClosed n (passRows file n rs ks)
   unfolding passRows
   pass-grew n rs ks h r k = go (bool-cases (upRows file n rs ks .fresh)) (up-grew n rs ks h r k)
     where
       go : (upRows file n rs ks .fresh ≡ true) ⊎ (upRows file n rs ks .fresh ≡ false) →
-          Grew file P rs ks (upRows file n rs ks) ×
-          (upRows file n rs ks .fresh ≡ false → (x : ℕ) → x < n → Closed file P (upRows file n rs ks .rows) (upRows file n rs ks .keys) x) →
-          Grew file P rs ks (passRows file n rs ks) ×
-          (passRows file n rs ks .fresh ≡ false → (x : ℕ) → x < n → Closed file P (passRows file n rs ks .rows) (passRows file n rs ks .keys) x)
+          Grew file P rs ks (upRows file n rs ks) × CryptsClosed n (upRows file n rs ks) →
+          Grew file P rs ks (passRows file n rs ks) × CryptsClosed n (passRows file n rs ks)
       go (inl e) u =
           let s = upRows file n rs ks in
           let g : Grew file P rs ks (stateOf (s .rows) (s .keys) true) = rw (← e) (u .0) in
@@ -150,17 +151,29 @@ module _ (file : List ℕ) (P : Promised file) where
         closed = q .closed;
       }
 
-  settles : (d : ℕ) (rs ks : List ℕ) (s : State) → Grew file P rs ks s →
+  -- rows that are no Crypts are closed at all times, so that a pass without a new key closes all
+  abbrev Steady : List ℕ → List ℕ → Type 0
+  Steady rs ks = (x : ℕ) → x < rowsOf file → ¬ (kindAt file x ≡ 8) → Closed file P rs ks x
+
+  all-closed : (t : State) → Steady (t .rows) (t .keys) → CryptsClosed (rowsOf file) t → t .fresh ≡ false → AllClosed (t .rows) (t .keys)
+  all-closed t st c e x l = go (ℕ-discrete (kindAt file x) 8)
+    where
+      go : Dec (kindAt file x ≡ 8) → Closed file P (t .rows) (t .keys) x
+      go (yes q) = c e x l q
+      go (no n) = st x l n
+
+  settles : (d : ℕ) (rs ks : List ℕ) (s : State) → Grew file P rs ks s → Steady (s .rows) (s .keys) →
       (s .fresh ≡ false → AllClosed (s .rows) (s .keys)) → (s .fresh ≡ true → unmarked 1024 (s .rows) < d) →
       Settled rs ks (settle file d s) × ((x : ℕ) → Marked (s .rows) x → Marked (settle file d s .rows) x)
   unfolding settle
-  settles zero rs ks s g c less = (settled-here rs ks s g (c (refuted _ (λ e. omega (arith, less e)))), λ x m. m)
-  settles (suc d) rs ks s g c less =
+  settles zero rs ks s g st c less = (settled-here rs ks s g (c (refuted _ (λ e. omega (arith, less e)))), λ x m. m)
+  settles (suc d) rs ks s g st c less =
       go (bool-cases (s .fresh))
       (λ (e : s .fresh ≡ true).
       let p = passRows file (rowsOf file) (s .rows) (s .keys) in
       let q = pass-grew (rowsOf file) (s .rows) (s .keys) (omega arith) (g .room) (g .room-keys) in
-      settles d (s .rows) (s .keys) p (q .0) (q .1)
+      let after : Steady (p .rows) (p .keys) = λ x l n. q .0 .steady x n (st x l n) in
+      settles d (s .rows) (s .keys) p (q .0) after (all-closed p after (q .1))
       (λ f. omega (arith, less e, fewer (s .rows) (p .rows) (q .0 .rows) (q .0 .new f))) .0)
     where
       fewer : (rs rs′ : List ℕ) → ((x : ℕ) → Marked rs x → Marked rs′ x) →
@@ -179,7 +192,7 @@ module _ (file : List ℕ) (P : Promised file) where
   see-settles rs ks row r k l c =
       let s = learnRow file (suc row) rs ks row in
       let g = learns file P (suc row) rs ks row r k l (omega arith) in
-      let end = settles 1024 rs ks s (g .0) (λ e x lx. g .0 .closed e x lx (c x lx)) (λ e. few (s .rows) (g .0 .rows) (g .0 .new e)) in
+      let end = settles 1024 rs ks s (g .0) (λ x lx n. g .0 .steady x n (c x lx)) (λ e x lx. g .0 .closed e x lx (c x lx)) (λ e. few (s .rows) (g .0 .rows) (g .0 .new e)) in
       (end .0, end .1 row (g .1))
     where
       few : (rs′ : List ℕ) → ((x : ℕ) → Marked rs x → Marked rs′ x) →

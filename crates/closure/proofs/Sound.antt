@@ -13,14 +13,14 @@ use borrow.Author.Tests.{ltb-true, lt-leb}
 use Rattle.paper.specs.Message as paper
 use Rattle.paper.specs.Spy.{Analz, fst, snd, decrypt}
 use Rattle.trace.specs.File.{rowsOf}
-use Rattle.trace.specs.Rows.{rowAt}
+use Rattle.trace.specs.Rows.{kindAt, rowAt}
 use Rattle.trace.specs.Meaning.{message}
 use Rattle.trace.specs.Promises.{Promised, Keeps, Unfolds, asAgent, asNumber, asNonce, asPrf, asPublic, asPrivate, asSession, asHash, asCrypt, asPair, publicKey, privateKey, crypt}
 use Rattle.trace.specs.declared.Row.{Row}
 use Rattle.trace.specs.declared.Row.the-variants.{Crypt}
 use Rattle.trace.proofs.First.{bool-cases}
 use Rattle.trace.proofs.Both.{both}
-use Rattle.closure.specs.Closure.{State, stateOf, rowMarked, know, knowRow, opensRow, opens, sidesOf, below, bothSides, learnWith, learnRow, reopenRow, upRows, downRows, passRows, settle, seeRow}
+use Rattle.closure.specs.Closure.{State, stateOf, rowMarked, know, knowRow, opensRow, opens, sidesOf, below, bothSides, learnWith, learnRow, reopens, reopenRow, upRows, downRows, passRows, settle, seeRow}
 use Rattle.closure.specs.declared.Sides.{Sides}
 use Rattle.closure.proofs.Marks.{Marked, Known, row-other, know-other}
 use Rattle.closure.proofs.Grew.{sides-at, learns, below-grew, both-grew}
@@ -179,11 +179,11 @@ module _ (file : List ℕ) (P : Promised file) (H : paper.msg → Type 0) where
 
   reopen-sound : (rs ks : List ℕ) (r : ℕ) → length rs ≡ 1024 → length ks ≡ 128 → r < rowsOf file → Sound rs ks →
       Sound (reopenRow file rs ks r .rows) (reopenRow file rs ks r .keys)
-  reopen-sound rs ks r rr kr l s = go (bool-cases (rowMarked rs r))
+  reopen-sound rs ks r rr kr l s = go (bool-cases (reopens file rs r))
     where
-      go : (rowMarked rs r ≡ true) ⊎ (rowMarked rs r ≡ false) → Sound (reopenRow file rs ks r .rows) (reopenRow file rs ks r .keys)
+      go : (reopens file rs r ≡ true) ⊎ (reopens file rs r ≡ false) → Sound (reopenRow file rs ks r .rows) (reopenRow file rs ks r .keys)
       go (inl m) =
-          let p = sides-sound rs ks s r l (s .rows r l m) in
+          let p = sides-sound rs ks s r l (s .rows r l (both (rowMarked rs r) (eqb (kindAt file r) 8) m .0)) in
           rw (m, reopenRow) (both-sound r (sounds r) r l (omega arith) rs ks (sides-at file P rs ks r) rr kr s (p .0) (p .1))
       go (inr u) = rw (u, reopenRow) s
 

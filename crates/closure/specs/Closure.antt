@@ -5,7 +5,7 @@ use mathlib.Core.List.{List}
 use lib.Dec.{eqb, ltb, leb}
 use lib.ListN.{getD, set, replicate}
 use Rattle.trace.specs.File.{rowsOf, agentLimit, compromisedIn}
-use Rattle.trace.specs.Rows.{choose, rowAt}
+use Rattle.trace.specs.Rows.{choose, kindAt, rowAt}
 use Rattle.trace.specs.Events.{eventAt}
 use Rattle.trace.specs.declared.Event.{Event}
 use Rattle.trace.specs.declared.Event.the-variants.{Says, Notes}
@@ -101,23 +101,13 @@ learnRow file (suc d) rows keys row =
           learnWith (λ rs ks x. learnRow file d rs ks x) rows keys row (sidesOf file rows keys row (rowAt file row)) (rowAt file row)
     ]
 
--- all that the row can open into is marked
-abbrev pub opened : List ℕ → Row → Bool
-opened rows (Agent a) = true
-opened rows (Number n) = true
-opened rows (Nonce n) = true
-opened rows (Prf s x y) = true
-opened rows (PublicKey a) = true
-opened rows (PrivateKey a) = true
-opened rows (SessionKey o x y z) = true
-opened rows (Hash x) = true
-opened rows (Crypt k x) = rowMarked rows (x .0)
-opened rows (Pair x y) = rowMarked rows (x .0) && rowMarked rows (y .0)
+-- a marked Crypt, of kind 8, is opened again, with the keys that are known by now; all else was open when it was marked
+abbrev pub reopens : (file rows : List ℕ) → ℕ → Bool
+reopens file rows r = rowMarked rows r && eqb (kindAt file r) 8
 
--- a marked row is opened again, with the keys that are known by now
 abbrev pub reopenRow : List ℕ → (rows keys : List ℕ) → ℕ → State
 reopenRow file rows keys r =
-    elim (rowMarked rows r) [
+    elim (reopens file rows r) [
       | true ↦ bothSides (learnRow file r) rows keys r (sidesOf file rows keys r (rowAt file r))
       | false ↦ stateOf rows keys false
     ]

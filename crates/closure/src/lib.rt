@@ -7,13 +7,14 @@ use trace::Event;
 use trace::EventNo;
 use trace::RowNo;
 use trace::rows::fields_at;
+use trace::rows::kind_at;
 ghost use mathlib.Core.Bool.{true};
 ghost use mathlib.Core.Path.{_≡_};
 ghost use Prim.Native.Nat.{suc, _+_};
 ghost use Rattle.trace.specs.File.{rowsOf, compromisedIn};
 ghost use Rattle.trace.specs.Rows.{choose, rowAt};
 ghost use Rattle.trace.specs.Events.{eventAt};
-ghost use Rattle.closure.specs.Closure.{stateOf, rowMarked, keyMarked, know, knowRow, opens, noSides, sidesOf, opened, below, learnRow, reopenRow, upRows, downRows, passRows, seeRow, seeEvent, startKeys, keyKnown, markRow, startRows};
+ghost use Rattle.closure.specs.Closure.{stateOf, rowMarked, keyMarked, know, knowRow, opens, noSides, sidesOf, below, learnRow, reopenRow, upRows, downRows, passRows, seeRow, seeEvent, startKeys, keyKnown, markRow, startRows};
 
 const ROWS: u16 = 1024;
 
@@ -163,40 +164,30 @@ fn learn_below(file: &[u8], rows: &mut [u8; 1024], keys: &mut [u8; 128], row: u1
     }
 }
 
-// Whether all that a row can open into is marked, so that opening it again changes nothing.
-fn is_open(file: &[u8], rows: &[u8; 1024], row: u16) -> bool
-    ensures { λ b. ⌜ b ≡ opened (now (rows .entry)) (rowAt (now (file .entry)) row) ⌝ }
-{
-    let f = fields_at(file, row);
-    if f.kind == CRYPT {
-        return row_marked(rows, f.second);
-    }
-    if f.kind < PAIR {
-        return true;
-    }
-    let left = row_marked(rows, f.first);
-    let right = row_marked(rows, f.second);
-    left & right
-}
-
-// Opens a marked row again, with the keys that are known by now.
+// Opens a marked Crypt again, with the keys that are known by now. All else was open when it was marked,
+// and the kind is one byte, so most rows of a pass end there.
 fn reopen(file: &[u8], rows: &mut [u8; 1024], keys: &mut [u8; 128], r: u16) -> bool
     ensures { λ f. ⌜ stateOf (now (rows .exit)) (now (keys .exit)) f ≡
         reopenRow (now (file .entry)) (now (rows .entry)) (now (keys .entry)) r ⌝ }
 {
     let known = row_marked(rows, r);
-    if known {
-        let open = is_open(file, rows, r);
-        if open {
-            return false;
-        }
-        let sides = sides_of(file, rows, keys, r);
-        let left = learn_below(file, rows, keys, r, sides.left);
-        let right = learn_below(file, rows, keys, r, sides.right);
-        left | right
-    } else {
-        false
+    if !known {
+        return false;
     }
+    let kind = kind_at(file, r);
+    if kind != CRYPT {
+        return false;
+    }
+    let f = fields_at(file, r);
+    let open = row_marked(rows, f.second);
+    if open {
+        return false;
+    }
+    let opens = opens_with(file, rows, keys, RowNo(f.first));
+    if opens {
+        return learn_below(file, rows, keys, r, f.second);
+    }
+    false
 }
 
 // From the lowest row up; tells whether a key became known.

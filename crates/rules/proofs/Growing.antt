@@ -17,7 +17,7 @@ use Rattle.trace.specs.declared.Event.{Event}
 use Rattle.trace.specs.declared.Event.the-variants.{Says, Notes}
 use Rattle.trace.proofs.Both.{both}
 use Rattle.spy.specs.Made.{made, makes, writeMarks}
-use Rattle.closure.specs.Closure.{State, stateOf, rowMarked, sidesOf, below, bothSides, learnWith, learnRow, reopenRow, upRows, downRows, passRows, settle, seeRow, seeEvent}
+use Rattle.closure.specs.Closure.{State, stateOf, rowMarked, sidesOf, below, bothSides, learnWith, learnRow, reopens, reopenRow, upRows, downRows, passRows, settle, seeRow, seeEvent}
 use Rattle.rules.specs.Tests.{canMake}
 use Rattle.rules.specs.Making.{Kept}
 use Rattle.rules.proofs.Branches.{and}
@@ -69,7 +69,7 @@ module _ (file : List ℕ) where
           set-kept (bothSides (learnRow file d) rs ks row s .rows) row x (both-kept (learnRow file d) g rs ks row x m)
 
   reopen-kept : (rs ks : List ℕ) (r : ℕ) → Kept rs (reopenRow file rs ks r .rows)
-  reopen-kept rs ks r = by-test (rowMarked rs r)
+  reopen-kept rs ks r = by-test (reopens file rs r)
     where
       by-test : (b : Bool) →
           Kept rs ((elim b as (λ _. State) [
