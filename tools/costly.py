@@ -13,11 +13,11 @@ ROWS, EVENTS = struct.unpack_from("<H", base, 14)[0], struct.unpack_from("<H", b
 rows0 = [base[20 + 8 * i : 28 + 8 * i] for i in range(ROWS)]
 events0 = [base[20 + 8 * (ROWS + i) : 28 + 8 * (ROWS + i)] for i in range(EVENTS)]
 
-NUMBER, NONCE, PRF, SESSION, HASH, CRYPT, PAIR = 1, 2, 3, 6, 7, 8, 9
+NUMBER, NONCE, PRF, PRIVATE, SESSION, HASH, CRYPT, PAIR = 1, 2, 3, 5, 6, 7, 8, 9
 SPY, CLIENT, SERVER = 0, 2, 3
 # what the rows of that handshake are
 NA, NB, SECRET, MASTER, SID, HELLO_END, REPLY_END, REST, SERVER_KEY = 0, 1, 2, 3, 4, 8, 11, 29, 34
-PA, CLIENT_ROW, SERVER_PUBLIC, SERVER_END = 5, 7, 13, 24
+PA, CLIENT_ROW, SERVER_END = 5, 7, 24
 FINISHED, SERVER_FINISHED, ACCEPTED, RESUMED = 6, 7, 8, 13
 
 
@@ -86,8 +86,9 @@ def told():
 
 def secrets():
     rows, junk = list(rows0), []
+    own_key = add(rows, PRIVATE, SPY)
     for i in range(250):
-        junk.append(says(SPY, SERVER, add(rows, CRYPT, SERVER_PUBLIC, add(rows, NUMBER, 40000 + i))))
+        junk.append(says(SPY, SERVER, add(rows, CRYPT, own_key, add(rows, NUMBER, 40000 + i))))
     write("like_secrets", rows, filled(events0[:8] + junk, events0[SERVER_FINISHED]))
 
 

@@ -9,7 +9,7 @@ use native.Mathlib.Omega.{arith}
 use native.Mathlib.Decide.{decLt}
 use lib.Dec.{ltb, leb}
 use borrow.Author.Tests.{ltb-true, lt-ltb, le-ltb, le-leb, lt-leb, ne-eqb}
-use lib.ListN.{set}
+use lib.ListN.{getD, set}
 use Rattle.trace.specs.Rows.{kindAt, fieldsAt, rowAt}
 use Rattle.trace.specs.declared.Row.{Row}
 use Rattle.trace.specs.declared.rows.Fields.{Fields}
@@ -88,6 +88,12 @@ module _ (file : List ℕ) where
         go : Dec (x < row) → stateOf rs ks false ≡ below (learnRow file row) rs ks row x
         go (yes l) = learn-known rs ks x m ∙ below-taken rs ks row x l
         go (no l) = below-left rs ks row x (omega arith)
+
+    pub mark-is : row < 1024 → getD rs row 0 ≡ 1 → rowMarked rs row ≡ true
+    mark-is l e = rw (lt-ltb row 1024 l, e) refl
+
+    pub mark-not : row < 1024 → ¬ (getD rs row 0 ≡ 1) → rowMarked rs row ≡ false
+    mark-not l n = rw (lt-ltb row 1024 l, ne-eqb (getD rs row 0) 1 n) refl
 
     pub reopen-unmarked : rowMarked rs row ≡ false → stateOf rs ks false ≡ reopenRow file rs ks row
     reopen-unmarked u = rw (u, reopenRow) refl

@@ -1,15 +1,19 @@
--- The loops' definitions, one turn more, and what is left of settling.
+-- The loops' definitions, one turn more, what is left of settling, and the rows that a pass may leave out.
 -- Assumes nothing.
-use Prim.Native.Nat.{ℕ, zero, suc, _+_, _-_, _<_}
-use mathlib.Core.Bool.{Bool, true, false, _||_}
+use Prim.Native.Nat.{ℕ, zero, suc, _+_, _-_, _*_, _<_, _≤_}
+use mathlib.Core.Bool.{Bool, true, false, _&&_, _||_}
 use mathlib.Core.List.{List}
-use mathlib.Core.Path.{_≡_, refl, sym, _∙_}
+use mathlib.Core.Logic.{_⊎_, inl, inr}
+use mathlib.Core.Path.{_≡_, refl, sym, _∙_, ap}
 use native.Mathlib.Omega.{arith}
 use native.Mathlib.Numerals.{add-one}
+use borrow.Author.Tests.{le-ltb}
 use Rattle.trace.specs.File.{rowsOf, compromisedIn}
 use Rattle.trace.specs.Rows.{choose, rowAt}
 use Rattle.trace.specs.Events.{eventAt}
-use Rattle.closure.specs.Closure.{State, stateOf, know, reopenRow, upRows, downRows, passRows, settle, startKeys, keyKnown, markRow, startRows, seeEvent, zeros, knownAfter}
+use Rattle.trace.proofs.Both.{or-true, or-none}
+use Rattle.trace.proofs.First.{bool-cases}
+use Rattle.closure.specs.Closure.{State, stateOf, know, reopens, reopenRow, upRows, downRows, passRows, Reaches, settle, startKeys, keyKnown, markRow, startRows, seeEvent, zeros, knownAfter}
 
 module _ (file : List ℕ) where
   pub up-none : (rows keys : List ℕ) → stateOf rows keys false ≡ upRows file 0 rows keys
@@ -21,6 +25,15 @@ module _ (file : List ℕ) where
       stateOf rs′ ks′ (f || g) ≡ upRows file (r + 1) rows keys
   unfolding upRows
   up-more r rows keys rs ks rs′ ks′ f g e q = rw (add-one, ← e, ← q)
+
+  -- a turn that makes a key known, and one that makes none
+  module _ (r : ℕ) (rows keys rs ks rs′ ks′ : List ℕ) (f : Bool) {g h : Bool} (e : stateOf rs ks f ≡ upRows file r rows keys)
+      (q : stateOf rs′ ks′ g ≡ reopenRow file rs ks r) where
+    pub up-found : g ≡ true → h ≡ true → stateOf rs′ ks′ h ≡ upRows file (r + 1) rows keys
+    up-found z w = rw (w, ← or-true f, ← z) (up-more r rows keys rs ks rs′ ks′ f g e q)
+
+    pub up-kept : g ≡ false → h ≡ f → stateOf rs′ ks′ h ≡ upRows file (r + 1) rows keys
+    up-kept z w = rw (w, ← or-none f, ← z) (up-more r rows keys rs ks rs′ ks′ f g e q)
 
   -- what is left of the way down gives the end
   down-step : (m : ℕ) (rs ks rs′ ks′ : List ℕ) (g : Bool) → stateOf rs′ ks′ g ≡ reopenRow file rs ks m →
@@ -58,6 +71,46 @@ module _ (file : List ℕ) where
   pass-ended n rows keys rs ks u z =
       let e : upRows file n rows keys .fresh ≡ false = rw (← u) z in
       rw (pass-over n rows keys e, ← z) u
+
+  -- a last row that is no marked Crypt may be left out of a pass
+  module _ (n : ℕ) (none : (rs : List ℕ) → reopens file rs n ≡ false) where
+    up-less : (rs ks : List ℕ) → upRows file n rs ks ≡ upRows file (suc n) rs ks
+    unfolding upRows
+    up-less rs ks =
+        let s = upRows file n rs ks in
+        rw (none (s .rows), reopenRow, or-none (s .fresh)) refl
+
+    down-less : (rs ks : List ℕ) → downRows file n rs ks ≡ downRows file (suc n) rs ks
+    unfolding downRows
+    down-less rs ks = rw (none rs, reopenRow) refl
+
+    pass-suc : (rs ks : List ℕ) → passRows file n rs ks ≡ passRows file (suc n) rs ks
+    unfolding passRows
+    pass-suc rs ks = go (bool-cases (upRows file n rs ks .fresh))
+      where
+        go : (upRows file n rs ks .fresh ≡ true) ⊎ (upRows file n rs ks .fresh ≡ false) → passRows file n rs ks ≡ passRows file (suc n) rs ks
+        go (inl e) =
+            let s = upRows file n rs ks in
+            pass-on n rs ks e ∙ down-less (s .rows) (s .keys) ∙ rw (up-less rs ks) (sym (pass-on (suc n) rs ks (rw (← up-less rs ks) e)))
+        go (inr e) = pass-over n rs ks e ∙ up-less rs ks ∙ sym (pass-over (suc n) rs ks (rw (← up-less rs ks) e))
+
+  -- a row past the marks is none
+  none-past : (r : ℕ) → 1024 ≤ r → (rs : List ℕ) → reopens file rs r ≡ false
+  none-past r l rs = rw (le-ltb r 1024 l) refl
+
+  pass-past : (k : ℕ) (rs ks : List ℕ) → passRows file 1024 rs ks ≡ passRows file (1024 + k) rs ks
+  pass-past zero rs ks = refl
+  pass-past (suc k) rs ks =
+      let q : suc (1024 + k) ≡ 1024 + suc k = omega arith in
+      pass-past k rs ks ∙ pass-suc (1024 + k) (none-past (1024 + k) (omega arith)) rs ks ∙ ap (λ (m : ℕ). passRows file m rs ks) q
+
+  pub reaches-all : (n : ℕ) → n ≡ rowsOf file → Reaches file n
+  reaches-all n e rs ks = rw e refl
+
+  pub reaches-marks : (n : ℕ) → n ≡ rowsOf file → 1024 < n → Reaches file 1024
+  reaches-marks n e l rs ks =
+      let q : 1024 + (rowsOf file - 1024) ≡ rowsOf file = omega (arith, e) in
+      pass-past (rowsOf file - 1024) rs ks ∙ ap (λ (m : ℕ). passRows file m rs ks) q
 
   pub keys-more : (a : ℕ) (keys ks ks′ : List ℕ) → ks ≡ startKeys file a keys →
       ks′ ≡ choose (compromisedIn file a) (know ks (64 + a)) ks → ks′ ≡ startKeys file (a + 1) keys
@@ -106,10 +159,10 @@ module _ (file : List ℕ) where
       settle file (1024 - p) (stateOf rs ks f) ≡ settle file 1024 s → stateOf rs ks f ≡ settle file 1024 t
   see-last p rs ks {f} e z q = rw (← e, ← q, z) (sym (settle-none (stateOf rs ks f)))
 
-  pub see-more : {t : State} (p : ℕ) (rs ks rs′ ks′ : List ℕ) (n : ℕ) {f g : Bool} → p < 1024 → n ≡ rowsOf file → f ≡ true →
-      settle file (1024 - p) (stateOf rs ks f) ≡ t → stateOf rs′ ks′ g ≡ passRows file n rs ks →
+  pub see-more : {t : State} (p : ℕ) (rs ks rs′ ks′ : List ℕ) {f g : Bool} → p < 1024 → f ≡ true →
+      settle file (1024 - p) (stateOf rs ks f) ≡ t → stateOf rs′ ks′ g ≡ passRows file (rowsOf file) rs ks →
       settle file (1024 - (p + 1)) (stateOf rs′ ks′ g) ≡ t
-  see-more p rs ks rs′ ks′ n {f} {g} l e z q r = rw (← q, z, r, e) (sym (settle-pass p rs ks l))
+  see-more p rs ks rs′ ks′ {f} {g} l z q r = rw (← q, z, r) (sym (settle-pass p rs ks l))
 
   abbrev Is : (rs ks : List ℕ) → State → Type 0
   Is rs ks s = (rs ≡ s .rows) × (ks ≡ s .keys)

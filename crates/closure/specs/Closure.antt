@@ -2,6 +2,7 @@
 use Prim.Native.Nat.{ℕ, zero, suc, _+_}
 use mathlib.Core.Bool.{Bool, true, false, _&&_, _||_}
 use mathlib.Core.List.{List}
+use mathlib.Core.Path.{_≡_}
 use lib.Dec.{eqb, ltb, leb}
 use lib.ListN.{getD, set, replicate}
 use Rattle.trace.specs.File.{rowsOf, agentLimit, compromisedIn}
@@ -129,6 +130,10 @@ unfoldable pub passRows : List ℕ → ℕ → (rows keys : List ℕ) → State
 passRows file n rows keys =
     let s = upRows file n rows keys in
     elim (s .fresh) [ true ↦ downRows file n (s .rows) (s .keys) | false ↦ s ]
+
+-- a pass over n rows does what one over all does
+abbrev pub Reaches : List ℕ → ℕ → Type 0
+Reaches file n = (rows keys : List ℕ) → passRows file n rows keys ≡ passRows file (rowsOf file) rows keys
 
 -- passes over all rows, as long as a key became known in the last one
 unfoldable pub settle : List ℕ → ℕ → State → State

@@ -10,11 +10,11 @@ use trace::rows::fields_at;
 use trace::rows::kind_at;
 ghost use mathlib.Core.Bool.{true};
 ghost use mathlib.Core.Path.{_≡_};
-ghost use Prim.Native.Nat.{suc, _+_};
+ghost use Prim.Native.Nat.{suc, _+_, _<_, _≤_};
 ghost use Rattle.trace.specs.File.{rowsOf, compromisedIn};
 ghost use Rattle.trace.specs.Rows.{choose, rowAt};
 ghost use Rattle.trace.specs.Events.{eventAt};
-ghost use Rattle.closure.specs.Closure.{stateOf, rowMarked, keyMarked, know, knowRow, opens, noSides, sidesOf, below, learnRow, reopenRow, upRows, downRows, passRows, seeRow, seeEvent, startKeys, keyKnown, markRow, startRows};
+ghost use Rattle.closure.specs.Closure.{stateOf, rowMarked, keyMarked, know, knowRow, opens, noSides, sidesOf, below, learnRow, reopenRow, upRows, downRows, passRows, Reaches, seeRow, seeEvent, startKeys, keyKnown, markRow, startRows};
 
 const ROWS: u16 = 1024;
 
@@ -167,11 +167,11 @@ fn learn_below(file: &[u8], rows: &mut [u8; 1024], keys: &mut [u8; 128], row: u1
 // Opens a marked Crypt again, with the keys that are known by now. All else was open when it was marked,
 // and the kind is one byte, so most rows of a pass end there.
 fn reopen(file: &[u8], rows: &mut [u8; 1024], keys: &mut [u8; 128], r: u16) -> bool
+    requires { ⌜ r < 1024 ⌝ }
     ensures { λ f. ⌜ stateOf (now (rows .exit)) (now (keys .exit)) f ≡
         reopenRow (now (file .entry)) (now (rows .entry)) (now (keys .entry)) r ⌝ }
 {
-    let known = row_marked(rows, r);
-    if !known {
+    if rows[r as usize] != 1 {
         return false;
     }
     let kind = kind_at(file, r);
@@ -192,6 +192,7 @@ fn reopen(file: &[u8], rows: &mut [u8; 1024], keys: &mut [u8; 128], r: u16) -> b
 
 // From the lowest row up; tells whether a key became known.
 fn pass_up(file: &[u8], rows: &mut [u8; 1024], keys: &mut [u8; 128], n: u16) -> bool
+    requires { ⌜ n ≤ 1024 ⌝ }
     ensures { λ f. ⌜ stateOf (now (rows .exit)) (now (keys .exit)) f ≡
         upRows (now (file .entry)) n (now (rows .entry)) (now (keys .entry)) ⌝ }
 {
@@ -199,7 +200,9 @@ fn pass_up(file: &[u8], rows: &mut [u8; 1024], keys: &mut [u8; 128], n: u16) -> 
     let mut r: u16 = 0;
     while r < n {
         let opened = reopen(file, rows, keys, r);
-        fresh = fresh | opened;
+        if opened {
+            fresh = true;
+        }
         r += 1;
     }
     fresh
@@ -207,6 +210,7 @@ fn pass_up(file: &[u8], rows: &mut [u8; 1024], keys: &mut [u8; 128], n: u16) -> 
 
 // From the highest row down, where a key became known on the way up.
 fn pass_down(file: &[u8], rows: &mut [u8; 1024], keys: &mut [u8; 128], n: u16)
+    requires { ⌜ n ≤ 1024 ⌝ }
     ensures { λ _. ⌜ stateOf (now (rows .exit)) (now (keys .exit)) true ≡
         downRows (now (file .entry)) n (now (rows .entry)) (now (keys .entry)) ⌝ }
 {
@@ -217,12 +221,22 @@ fn pass_down(file: &[u8], rows: &mut [u8; 1024], keys: &mut [u8; 128], n: u16)
     }
 }
 
+// The rows that a pass looks at: one past the marks is never known, and a file that was read has none.
+fn reach(file: &[u8]) -> u16
+    ensures { λ n. ⌜ n ≤ 1024 ⌝ }
+    ensures { λ n. ⌜ Reaches (now (file .entry)) n ⌝ }
+{
+    let n = trace::row_count(file);
+    if ROWS < n { ROWS } else { n }
+}
+
 // One pass over the rows, up, and down if that found a key: a chain of keys opens at once in either
 // order. Going up without a new key leaves nothing to open.
-fn pass(file: &[u8], rows: &mut [u8; 1024], keys: &mut [u8; 128], n: u16) -> bool
+fn pass(file: &[u8], rows: &mut [u8; 1024], keys: &mut [u8; 128]) -> bool
     ensures { λ f. ⌜ stateOf (now (rows .exit)) (now (keys .exit)) f ≡
-        passRows (now (file .entry)) n (now (rows .entry)) (now (keys .entry)) ⌝ }
+        passRows (now (file .entry)) (rowsOf (now (file .entry))) (now (rows .entry)) (now (keys .entry)) ⌝ }
 {
+    let n = reach(file);
     let found = pass_up(file, rows, keys, n);
     if found {
         pass_down(file, rows, keys, n);
@@ -237,14 +251,13 @@ fn see(file: &[u8], rows: &mut [u8; 1024], keys: &mut [u8; 128], row: u16)
     ensures { λ _. ⌜ now (rows .exit) ≡ seeRow (now (file .entry)) (now (rows .entry)) (now (keys .entry)) row .rows ⌝ }
     ensures { λ _. ⌜ now (keys .exit) ≡ seeRow (now (file .entry)) (now (rows .entry)) (now (keys .entry)) row .keys ⌝ }
 {
-    let n = trace::row_count(file);
     let mut fresh = learn(file, rows, keys, row);
     let mut passes: u16 = 0;
     while passes < ROWS {
         if !fresh {
             return;
         }
-        fresh = pass(file, rows, keys, n);
+        fresh = pass(file, rows, keys);
         passes += 1;
     }
 }

@@ -47,7 +47,7 @@ pub fn header_of(file: &[u8]) -> Header
 }
 
 // The number of rows alone, which every reader of an event needs.
-pub fn rows_of(file: &[u8]) -> u16
+pub(crate) fn rows_of(file: &[u8]) -> u16
     ensures { λ n. ⌜ n ≡ rowsOf (now (file .entry)) ⌝ }
 {
     bytes::word_at(file, ROW_COUNT_AT)

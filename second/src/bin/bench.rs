@@ -107,6 +107,17 @@ fn last_line(file: &[u8]) -> String {
     text.lines().last().unwrap_or_default().into()
 }
 
+/// This program's answers, asked for as the archive's are: by a call, for the same number.
+#[inline(never)]
+fn own_verdict(file: &[u8], rules: &mut [u8]) -> u32 {
+    archive::verdict_word(judge::verdict(file, rules))
+}
+
+#[inline(never)]
+fn own_knowledge(file: &[u8], n: usize, marks: &mut [u8]) -> u32 {
+    archive::knowledge_word(judge::knowledge(file, n, marks))
+}
+
 /// The times of both programs for one question, in microseconds.
 struct Times {
     archive: f64,
@@ -115,11 +126,11 @@ struct Times {
 
 impl Times {
     fn of_verdict(file: &[u8]) -> Times {
-        let ours = archive::verdict_word(judge::verdict(file, &mut [0; MAX_EVENTS]));
+        let ours = own_verdict(file, &mut [0; MAX_EVENTS]);
         assert_eq!(ours, archive::verdict(file, &mut [0; MAX_EVENTS]));
         Times {
-            archive: median(MAX_EVENTS, |rules| archive::verdict(file, rules)),
-            this: median(MAX_EVENTS, |rules| judge::verdict(file, rules)),
+            archive: median(MAX_EVENTS, |rules| archive::verdict(black_box(file), rules)),
+            this: median(MAX_EVENTS, |rules| own_verdict(black_box(file), rules)),
         }
     }
 
@@ -128,11 +139,11 @@ impl Times {
             Some(count) => u16::from_le_bytes([count[0], count[1]]) as usize,
             None => 0,
         };
-        let ours = archive::knowledge_word(judge::knowledge(file, n, &mut [0; MAX_ROWS]));
+        let ours = own_knowledge(file, n, &mut [0; MAX_ROWS]);
         assert_eq!(ours, archive::knowledge(file, n, &mut [0; MAX_ROWS]));
         Times {
-            archive: median(MAX_ROWS, |marks| archive::knowledge(file, n, marks)),
-            this: median(MAX_ROWS, |marks| judge::knowledge(file, n, marks)),
+            archive: median(MAX_ROWS, |marks| archive::knowledge(black_box(file), n, marks)),
+            this: median(MAX_ROWS, |marks| own_knowledge(black_box(file), n, marks)),
         }
     }
 }

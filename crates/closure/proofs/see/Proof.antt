@@ -11,14 +11,11 @@ use Rattle.closure.proofs.see.Statement.{statement}
 use Rattle.closure.proofs.see.Tie as tie
 
 abbrev Inv-loop : tie.InvT-loop
-Inv-loop file rows₀ keys₀ row n fresh₀ passes₀ rows keys fresh passes =
+Inv-loop file rows₀ keys₀ row fresh₀ passes₀ rows keys fresh passes =
     (passes ≤ 1024) × (settle file (1024 - passes) (stateOf rows keys fresh) ≡ settle file 1024 (stateOf rows₀ keys₀ fresh₀))
 
 abbrev μ-loop : tie.MeasureT-loop
-μ-loop file rows₀ keys₀ row n fresh₀ passes₀ rows keys fresh passes = 1024 - passes
-
-row-count-requires : tie.Need-row-count-requires Inv-loop μ-loop
-row-count-requires c κs = tt
+μ-loop file rows₀ keys₀ row fresh₀ passes₀ rows keys fresh passes = 1024 - passes
 
 learn-requires : tie.Need-learn-requires Inv-loop μ-loop
 learn-requires c κs = tt
@@ -29,7 +26,7 @@ loop-holds c = (omega arith, refl)
 returns : tie.Need-returns Inv-loop μ-loop
 returns c =
     let l = c .before .before .loop in
-    let end = see-end (now (c .before .before .before .before .before .before .before .before .args .file)) _ (l .rows) (l .keys) (c .before .before .before .learn .ensures) (l .inv .1) (not-true _ (c .if1 .taken)) in
+    let end = see-end (now (c .before .before .before .before .before .before .before .args .file)) _ (l .rows) (l .keys) (c .before .before .before .learn .ensures) (l .inv .1) (not-true _ (c .if1 .taken)) in
     (ap (λ (s : State). s .rows) end, ap (λ (s : State). s .keys) end)
 
 pass-requires : tie.Need-pass-requires Inv-loop μ-loop
@@ -45,14 +42,14 @@ loop-again : tie.Need-loop-again Inv-loop μ-loop
 loop-again c =
     let l = c .before .before .before .before .before .loop in (
       omega arith,
-      see-more (now (c .before .before .before .before .before .before .before .before .before .before .before .args .file)) (l .passes) (l .rows) (l .keys) _ _ _ (omega arith) (c .before .before .before .before .before .before .before .before .before .row-count .ensures)
+      see-more (now (c .before .before .before .before .before .before .before .before .before .before .args .file)) (l .passes) (l .rows) (l .keys) _ _ (omega arith)
           (not-false _ (c .before .before .before .if1 .left)) (l .inv .1) (c .pass .ensures),
     )
 
 returns-2 : tie.Need-returns-2 Inv-loop μ-loop
 returns-2 c =
     let l = c .before .loop in
-    let end = see-last (now (c .before .before .before .before .before .before .before .args .file)) (l .passes) (l .rows) (l .keys) (c .before .before .learn .ensures) (omega arith) (l .inv .1) in
+    let end = see-last (now (c .before .before .before .before .before .before .args .file)) (l .passes) (l .rows) (l .keys) (c .before .before .learn .ensures) (omega arith) (l .inv .1) in
     (ap (λ (s : State). s .rows) end, ap (λ (s : State). s .keys) end)
 
 pub see-spec : {M : Type 1} → statement M
@@ -61,7 +58,6 @@ see-spec =
     (tie.spec
     Inv-loop
     μ-loop
-    row-count-requires
     learn-requires
     loop-holds
     returns
