@@ -2,6 +2,7 @@
 mod header;
 mod search;
 
+use trace::AgentNo;
 use trace::Cause;
 use trace::EventNo;
 use trace::Reading;
@@ -11,6 +12,12 @@ use trace::header::header_of;
 ghost use mathlib.Core.Path.{_≡_};
 ghost use Prim.Native.Nat.{_≤_};
 ghost use Rattle.trace.specs.Refusal.{readItems, reading};
+
+const VERSION: u16 = 1;
+
+const SPY: AgentNo = AgentNo(0);
+
+const AUTHORITY: AgentNo = AgentNo(1);
 
 // The rows and events of a file whose contents part is right.
 fn read_items(file: &[u8], rows: u16, events: u16) -> Reading
@@ -40,12 +47,18 @@ pub fn read(file: &[u8]) -> Reading
         return Reading::Refused(Cause::TooShort);
     }
     let h = header_of(file);
-    let version = header::wrong_version(h);
-    if version {
+    if h.version != VERSION {
         return Reading::Refused(Cause::WrongVersion);
     }
-    let set = header::wrong_set(file);
-    if set {
+    if h.reserved != 0 {
+        return Reading::Refused(Cause::WrongVersion);
+    }
+    let spy = trace::compromised(file, SPY);
+    if !spy {
+        return Reading::Refused(Cause::WrongSet);
+    }
+    let authority = trace::compromised(file, AUTHORITY);
+    if authority {
         return Reading::Refused(Cause::WrongSet);
     }
     let contents = header::wrong_contents(h, file.len());

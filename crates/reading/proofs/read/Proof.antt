@@ -1,66 +1,85 @@
 -- `reading::read` meets its contract: the tests that led to a return say which case of `reading` holds.
 -- Assumes nothing.
-use mathlib.Core.Bool.{Bool}
-use mathlib.Core.Path.{_≡_, sym, _∙_, ap}
+use Prim.Native.Nat.{ℕ}
+use mathlib.Core.Bool.{Bool, true, false, not}
+use mathlib.Core.List.{List}
+use mathlib.Core.Path.{_≡_, refl, sym, _∙_, ap}
 use denote.Ref.{now}
 use lib.ListN.{length}
-use borrow.Author.Needs.{needs}
-use Rattle.trace.specs.File.{wrongVersion, wrongContents}
+use borrow.Author.Tests.{ne-eqb, not-true, not-false}
+use Rattle.trace.specs.File.{compromisedIn, wrongVersion, wrongSet, wrongContents}
 use Rattle.trace.specs.Refusal.{readItems}
 use Rattle.trace.specs.declared.header.Header.{Header}
 use Rattle.trace.proofs.Refusal.{few-rows, reading-short, reading-version, reading-set, reading-contents, reading-items}
+use borrow.Author.Needs.{needs}
 use Rattle.reading.proofs.read.Statement.{statement}
 use Rattle.reading.proofs.read.Tie as tie
 
--- a test of the header that was read, as a test of the file's header
-of-header : {g h : Header} {a b : Bool} (test : Header → Bool) → g ≡ h → a ≡ test g → a ≡ b → test h ≡ b
-of-header test e q r = rw (← e, ← q) r
+-- the header that was read is the file's
+module _ {g h : Header} (e : g ≡ h) where
+  other-version : ¬ (g .version ≡ 1) → wrongVersion h ≡ true
+  other-version n = rw (← e, ne-eqb (g .version) 1 n) refl
+
+  other-reserved : g .version ≡ 1 → ¬ (g .reserved ≡ 0) → wrongVersion h ≡ true
+  other-reserved v n = rw (← e, v, ne-eqb (g .reserved) 0 n) refl
+
+  right-version : g .version ≡ 1 → g .reserved ≡ 0 → wrongVersion h ≡ false
+  right-version v r = rw (← e, v, r) refl
+
+  contents-is : {a b : Bool} (len : ℕ) → a ≡ wrongContents g len → a ≡ b → wrongContents h len ≡ b
+  contents-is len q r = rw (← e, ← q) r
+
+-- the set has the Spy, and not the authority
+module _ (file : List ℕ) {s : Bool} (spy : s ≡ compromisedIn file 0) where
+  no-spy : not s ≡ true → wrongSet file ≡ true
+  no-spy t = rw (← spy, not-true s t) refl
+
+  module _ (there : not s ≡ false) {a : Bool} (authority : a ≡ compromisedIn file 1) where
+    lost-authority : a ≡ true → wrongSet file ≡ true
+    lost-authority t = rw (← spy, not-false s there, ← authority, t) refl
+
+    right-set : a ≡ false → wrongSet file ≡ false
+    right-set f = rw (← spy, not-false s there, ← authority, f) refl
 
 returns : tie.Need-returns
 returns c = sym (reading-short (now (c .before .before .args .file)) (c .if1 .taken))
 
 returns-2 : tie.Need-returns-2
-returns-2 c =
-    let file = now (c .before .before .before .before .before .args .file) in
-    sym
-    (reading-version file (c .before .before .before .if1 .left)
-    (of-header wrongVersion (c .before .before .header-of .ensures) (c .before .wrong-version .ensures) (c .if2 .taken)))
+returns-2 c = sym (reading-version (now (c .before .before .before .before .before .args .file)) (c .before .before .before .if1 .left) (other-version (c .before .before .header-of .ensures) (c .if2 .taken)))
 
 returns-3 : tie.Need-returns-3
-returns-3 c =
-    let file = now (c .before .before .before .before .before .before .before .args .file) in
-    let h = c .before .before .before .before .header-of .ensures in
-    sym
-    (reading-set file (c .before .before .before .before .before .if1 .left)
-    (of-header wrongVersion h (c .before .before .before .wrong-version .ensures) (c .before .before .if2 .left))
-    (sym (c .before .wrong-set .ensures) ∙ c .if3 .taken))
+returns-3 c = sym (reading-version (now (c .before .before .before .before .before .before .before .args .file)) (c .before .before .before .before .before .if1 .left) (other-reserved (c .before .before .before .before .header-of .ensures) (c .before .before .if2 .left) (c .if3 .taken)))
 
 returns-4 : tie.Need-returns-4
 returns-4 c =
     let file = now (c .before .before .before .before .before .before .before .before .before .args .file) in
-    let h = c .before .before .before .before .before .before .header-of .ensures in
     sym
-    (reading-contents file (c .before .before .before .before .before .before .before .if1 .left)
-    (of-header wrongVersion h (c .before .before .before .before .before .wrong-version .ensures) (c .before .before .before .before .if2 .left))
-    (sym (c .before .before .before .wrong-set .ensures) ∙ c .before .before .if3 .left)
-    (of-header (λ g. wrongContents g (length file)) h (c .before .wrong-contents .ensures) (c .if4 .taken)))
-
-read-items-requires : tie.Need-read-items-requires
-read-items-requires c κs =
-    few-rows (c .before .before .before .before .before .before .header-of .result)
-    (length (now (c .before .before .before .before .before .before .before .before .before .args .file)))
-    (sym (c .before .wrong-contents .ensures) ∙ c .if4 .left)
+    (reading-set file (c .before .before .before .before .before .before .before .if1 .left) (right-version (c .before .before .before .before .before .before .header-of .ensures) (c .before .before .before .before .if2 .left) (c .before .before .if3 .left)) (no-spy file (c .before .compromised .ensures) (c .if4 .taken)))
 
 returns-5 : tie.Need-returns-5
 returns-5 c =
-    let file = now (c .before .before .before .before .before .before .before .before .before .before .args .file) in
-    let h = c .before .before .before .before .before .before .before .header-of .ensures in
+    let file = now (c .before .before .before .before .before .before .before .before .before .before .before .args .file) in
+    sym
+    (reading-set file (c .before .before .before .before .before .before .before .before .before .if1 .left) (right-version (c .before .before .before .before .before .before .before .before .header-of .ensures) (c .before .before .before .before .before .before .if2 .left) (c .before .before .before .before .if3 .left))
+    (lost-authority file (c .before .before .before .compromised .ensures) (c .before .before .if4 .left) (c .before .compromised2 .ensures) (c .if5 .taken)))
+
+returns-6 : tie.Need-returns-6
+returns-6 c =
+    let file = now (c .before .before .before .before .before .before .before .before .before .before .before .before .before .args .file) in
+    sym
+    (reading-contents file (c .before .before .before .before .before .before .before .before .before .before .before .if1 .left) (right-version (c .before .before .before .before .before .before .before .before .before .before .header-of .ensures) (c .before .before .before .before .before .before .before .before .if2 .left) (c .before .before .before .before .before .before .if3 .left))
+    (right-set file (c .before .before .before .before .before .compromised .ensures) (c .before .before .before .before .if4 .left) (c .before .before .before .compromised2 .ensures) (c .before .before .if5 .left))
+    (contents-is (c .before .before .before .before .before .before .before .before .before .before .header-of .ensures) (length file) (c .before .wrong-contents .ensures) (c .if6 .taken)))
+
+returns-7 : tie.Need-returns-7
+returns-7 c =
+    let file = now (c .before .before .before .before .before .before .before .before .before .before .before .before .before .before .args .file) in
+    let h = c .before .before .before .before .before .before .before .before .before .before .before .header-of .ensures in
     c .read-items .ensures ∙ ap (λ (g : Header). readItems file (g .rows) (g .events)) h ∙
     sym
-    (reading-items file (c .before .before .before .before .before .before .before .before .if1 .left)
-    (of-header wrongVersion h (c .before .before .before .before .before .before .wrong-version .ensures) (c .before .before .before .before .before .if2 .left))
-    (sym (c .before .before .before .before .wrong-set .ensures) ∙ c .before .before .before .if3 .left)
-    (of-header (λ g. wrongContents g (length file)) h (c .before .before .wrong-contents .ensures) (c .before .if4 .left)))
+    (reading-items file (c .before .before .before .before .before .before .before .before .before .before .before .before .if1 .left) (right-version h (c .before .before .before .before .before .before .before .before .before .if2 .left) (c .before .before .before .before .before .before .before .if3 .left))
+    (right-set file (c .before .before .before .before .before .before .compromised .ensures) (c .before .before .before .before .before .if4 .left) (c .before .before .before .before .compromised2 .ensures) (c .before .before .before .if5 .left))
+    (contents-is h (length file) (c .before .before .wrong-contents .ensures) (c .before .if6 .left)))
 
 pub read-spec : {M : Type 1} → statement M
 read-spec =
@@ -68,11 +87,13 @@ read-spec =
     (tie.spec
     returns
     (λ c κs. search needs)
-    (λ c κs. search needs)
     returns-2
-    (λ c κs. search needs)
     returns-3
     (λ c κs. search needs)
     returns-4
-    read-items-requires
-    returns-5)
+    (λ c κs. search needs)
+    returns-5
+    (λ c κs. search needs)
+    returns-6
+    (λ c κs. few-rows (c .before .before .before .before .before .before .before .before .before .before .header-of .result) (length (now (c .before .before .before .before .before .before .before .before .before .before .before .before .before .args .file))) (sym (c .before .wrong-contents .ensures) ∙ c .if6 .left))
+    returns-7)
