@@ -11,9 +11,16 @@ use trace::header::ROWS_AT;
 use trace::header::header_of;
 ghost use mathlib.Core.Path.{_≡_};
 ghost use Prim.Native.Nat.{_≤_};
+ghost use lib.ListN.{length};
+ghost use Rattle.trace.specs.File.{headerOf, rowsOf, eventsOf, wrongContents};
+ghost use Rattle.trace.specs.Rows.{choose};
+ghost use Rattle.trace.specs.declared.Cause.the-variants.{WrongContents};
+ghost use Rattle.trace.specs.declared.Reading.the-variants.{Refused};
 ghost use Rattle.trace.specs.Refusal.{readItems, reading};
 
 const VERSION: u16 = 1;
+
+const MOST_ROWS: u16 = 1024;
 
 const SPY: AgentNo = AgentNo(0);
 
@@ -39,7 +46,22 @@ fn read_items(file: &[u8], rows: u16, events: u16) -> Reading
     Reading::Readable
 }
 
-// Refused with its cause and place, or readable.
+// The rest of a file that has room for its rows: what else its contents part has to hold, and its items.
+fn read_contents(file: &[u8]) -> Reading
+    requires { ⌜ rowsOf (now file) ≤ 1024 ⌝ }
+    ensures { λ r. ⌜ r ≡ choose (wrongContents (headerOf (now (file .entry))) (length (now (file .entry)))) (Refused WrongContents)
+        (readItems (now (file .entry)) (rowsOf (now (file .entry))) (eventsOf (now (file .entry)))) ⌝ }
+{
+    let h = header_of(file);
+    let contents = header::wrong_contents(h, file.len());
+    if contents {
+        return Reading::Refused(Cause::WrongContents);
+    }
+    read_items(file, h.rows, h.events)
+}
+
+// Refused with its cause and place, or readable. What the first bytes refuse is refused before any room is made for
+// the rows.
 pub fn read(file: &[u8]) -> Reading
     ensures { λ r. ⌜ r ≡ reading (now (file .entry)) ⌝ }
 {
@@ -61,9 +83,8 @@ pub fn read(file: &[u8]) -> Reading
     if authority {
         return Reading::Refused(Cause::WrongSet);
     }
-    let contents = header::wrong_contents(h, file.len());
-    if contents {
+    if MOST_ROWS < h.rows {
         return Reading::Refused(Cause::WrongContents);
     }
-    read_items(file, h.rows, h.events)
+    read_contents(file)
 }

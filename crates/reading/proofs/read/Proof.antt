@@ -1,16 +1,19 @@
 -- `reading::read` meets its contract: the tests that led to a return say which case of `reading` holds.
 -- Assumes nothing.
-use Prim.Native.Nat.{ℕ}
+use Prim.Native.Nat.{ℕ, _<_, _≤_}
 use mathlib.Core.Bool.{Bool, true, false, not}
 use mathlib.Core.List.{List}
-use mathlib.Core.Path.{_≡_, refl, sym, _∙_, ap}
+use mathlib.Core.Path.{_≡_, refl, sym, _∙_}
 use denote.Ref.{now}
 use lib.ListN.{length}
-use borrow.Author.Tests.{ne-eqb, not-true, not-false}
-use Rattle.trace.specs.File.{compromisedIn, wrongVersion, wrongSet, wrongContents}
-use Rattle.trace.specs.Refusal.{readItems}
+use borrow.Author.Tests.{lt-ltb, le-ltb, ne-eqb, not-true, not-false}
+use Rattle.trace.specs.File.{rowsAt, headerOf, rowsOf, eventsOf, compromisedIn, wrongVersion, wrongSet, wrongContents}
+use Rattle.trace.specs.Rows.{choose}
+use Rattle.trace.specs.Refusal.{readItems, reading}
+use Rattle.trace.specs.declared.Cause.the-variants.{WrongContents}
+use Rattle.trace.specs.declared.Reading.the-variants.{Refused}
 use Rattle.trace.specs.declared.header.Header.{Header}
-use Rattle.trace.proofs.Refusal.{few-rows, reading-short, reading-version, reading-set, reading-contents, reading-items}
+use Rattle.trace.proofs.Refusal.{reading-short, reading-version, reading-set, reading-contents}
 use borrow.Author.Needs.{needs}
 use Rattle.reading.proofs.read.Statement.{statement}
 use Rattle.reading.proofs.read.Tie as tie
@@ -26,8 +29,8 @@ module _ {g h : Header} (e : g ≡ h) where
   right-version : g .version ≡ 1 → g .reserved ≡ 0 → wrongVersion h ≡ false
   right-version v r = rw (← e, v, r) refl
 
-  contents-is : {a b : Bool} (len : ℕ) → a ≡ wrongContents g len → a ≡ b → wrongContents h len ≡ b
-  contents-is len q r = rw (← e, ← q) r
+  many-rows : (len : ℕ) → 1024 < g .rows → wrongContents h len ≡ true
+  many-rows len l = rw (← e, lt-ltb 1024 (g .rows) l) refl
 
 -- the set has the Spy, and not the authority
 module _ (file : List ℕ) {s : Bool} (spy : s ≡ compromisedIn file 0) where
@@ -40,6 +43,11 @@ module _ (file : List ℕ) {s : Bool} (spy : s ≡ compromisedIn file 0) where
 
     right-set : a ≡ false → wrongSet file ≡ false
     right-set f = rw (← spy, not-false s there, ← authority, f) refl
+
+to-contents : (file : List ℕ) → rowsAt ≤ length file → wrongVersion (headerOf file) ≡ false → wrongSet file ≡ false →
+    choose (wrongContents (headerOf file) (length file)) (Refused WrongContents) (readItems file (rowsOf file) (eventsOf file)) ≡ reading file
+unfolding reading
+to-contents file l v s = rw (le-ltb (length file) rowsAt l, v, s) refl
 
 returns : tie.Need-returns
 returns c = sym (reading-short (now (c .before .before .args .file)) (c .if1 .taken))
@@ -69,17 +77,14 @@ returns-6 c =
     sym
     (reading-contents file (c .before .before .before .before .before .before .before .before .before .before .before .if1 .left) (right-version (c .before .before .before .before .before .before .before .before .before .before .header-of .ensures) (c .before .before .before .before .before .before .before .before .if2 .left) (c .before .before .before .before .before .before .if3 .left))
     (right-set file (c .before .before .before .before .before .compromised .ensures) (c .before .before .before .before .if4 .left) (c .before .before .before .compromised2 .ensures) (c .before .before .if5 .left))
-    (contents-is (c .before .before .before .before .before .before .before .before .before .before .header-of .ensures) (length file) (c .before .wrong-contents .ensures) (c .if6 .taken)))
+    (many-rows (c .before .before .before .before .before .before .before .before .before .before .header-of .ensures) (length file) (c .if6 .taken)))
 
 returns-7 : tie.Need-returns-7
 returns-7 c =
     let file = now (c .before .before .before .before .before .before .before .before .before .before .before .before .before .before .args .file) in
-    let h = c .before .before .before .before .before .before .before .before .before .before .before .header-of .ensures in
-    c .read-items .ensures ∙ ap (λ (g : Header). readItems file (g .rows) (g .events)) h ∙
-    sym
-    (reading-items file (c .before .before .before .before .before .before .before .before .before .before .before .before .if1 .left) (right-version h (c .before .before .before .before .before .before .before .before .before .if2 .left) (c .before .before .before .before .before .before .before .if3 .left))
+    c .read-contents .ensures ∙
+    to-contents file (c .before .before .before .before .before .before .before .before .before .before .before .before .if1 .left) (right-version (c .before .before .before .before .before .before .before .before .before .before .before .header-of .ensures) (c .before .before .before .before .before .before .before .before .before .if2 .left) (c .before .before .before .before .before .before .before .if3 .left))
     (right-set file (c .before .before .before .before .before .before .compromised .ensures) (c .before .before .before .before .before .if4 .left) (c .before .before .before .before .compromised2 .ensures) (c .before .before .before .if5 .left))
-    (contents-is h (length file) (c .before .before .wrong-contents .ensures) (c .before .if6 .left)))
 
 pub read-spec : {M : Type 1} → statement M
 read-spec =
@@ -93,7 +98,6 @@ read-spec =
     returns-4
     (λ c κs. search needs)
     returns-5
-    (λ c κs. search needs)
     returns-6
-    (λ c κs. few-rows (c .before .before .before .before .before .before .before .before .before .before .header-of .result) (length (now (c .before .before .before .before .before .before .before .before .before .before .before .before .before .args .file))) (sym (c .before .wrong-contents .ensures) ∙ c .if6 .left))
+    (λ c κs. rw (c .before .before .before .before .before .before .before .before .before .before .header-of .ensures) at (c .if6 .left))
     returns-7)
