@@ -11,9 +11,7 @@ ghost use Rattle.forms.specs.Kinds.{publicOf};
 ghost use Rattle.forms.specs.Forms.{keptOf, signedOf, rememberedOf};
 ghost use Rattle.earlier.specs.Cards.{cryptCard, saidCard, notedWith, cardOf, any, just, lookWith, lookFor, fitsPart, fitsAgents};
 
-// The shapes.
-const NONE: u16 = 0;
-
+// The shapes; 0 is none of them.
 const HELLO: u16 = 1;
 
 const REPLY: u16 = 2;
@@ -36,6 +34,14 @@ pub struct Card {
     pub third: u16,
     pub fourth: u16,
 }
+
+const NO_CARD: Card = Card {
+    shape: 0,
+    first: 0,
+    second: 0,
+    third: 0,
+    fourth: 0,
+};
 
 // What is asked of a part, if anything is.
 pub struct Part {
@@ -116,13 +122,7 @@ fn said_card(file: &[u8], r: u16) -> Card
             fourth: 0,
         };
     }
-    Card {
-        shape: NONE,
-        first: 0,
-        second: 0,
-        third: 0,
-        fourth: 0,
-    }
+    NO_CARD
 }
 
 fn noted_card(file: &[u8], r: u16) -> Card
@@ -148,13 +148,7 @@ fn noted_card(file: &[u8], r: u16) -> Card
             fourth: n.m,
         };
     }
-    Card {
-        shape: NONE,
-        first: 0,
-        second: 0,
-        third: 0,
-        fourth: 0,
-    }
+    NO_CARD
 }
 
 pub fn card_of(file: &[u8], h: Heard) -> Card
