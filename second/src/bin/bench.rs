@@ -16,7 +16,7 @@ const DEFAULT_DIRECTORY: &str = concat!(env!("CARGO_MANIFEST_DIR"), "/../../shar
 const TIME_PER_MEDIAN: Duration = Duration::from_millis(60);
 /// How long a reading of the clock has to cover at least: short calls are timed several at once,
 /// since the clock itself takes as long as one of them.
-const TIME_PER_READING: Duration = Duration::from_micros(50);
+const TIME_PER_READING: Duration = Duration::from_millis(2);
 const MIN_RUNS: usize = 9;
 const MAX_RUNS: usize = 2001;
 /// What the lent buffers hold before each call.
