@@ -1,6 +1,6 @@
 // What each row and each event has to hold: refusals 5 and 7.
 use trace::events::Parts;
-use trace::header::AGENTS;
+use trace::limits::AGENTS;
 use trace::rows::Fields;
 use trace::rows::fields_at;
 use trace::rows::kind_at;

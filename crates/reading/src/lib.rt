@@ -7,12 +7,13 @@ use trace::Cause;
 use trace::EventNo;
 use trace::Reading;
 use trace::RowNo;
-use trace::header::ROWS_AT;
 use trace::header::header_of;
+use trace::limits::ROWS;
+use trace::limits::ROWS_AT;
 ghost use mathlib.Core.Path.{_≡_};
 ghost use Prim.Native.Nat.{_≤_};
 ghost use lib.ListN.{length};
-ghost use Rattle.trace.specs.File.{headerOf, rowsOf, eventsOf, wrongContents};
+ghost use Rattle.trace.specs.File.{rowLimit, headerOf, rowsOf, eventsOf, wrongContents};
 ghost use Rattle.trace.specs.Rows.{choose};
 ghost use Rattle.trace.specs.declared.Cause.the-variants.{WrongContents};
 ghost use Rattle.trace.specs.declared.Reading.the-variants.{Refused};
@@ -20,15 +21,13 @@ ghost use Rattle.trace.specs.Refusal.{readItems, reading};
 
 const VERSION: u16 = 1;
 
-const MOST_ROWS: u16 = 1024;
-
 const SPY: AgentNo = AgentNo(0);
 
 const AUTHORITY: AgentNo = AgentNo(1);
 
 // The rows and events of a file whose contents part is right.
 fn read_items(file: &[u8], rows: u16, events: u16) -> Reading
-    requires { ⌜ rows ≤ 1024 ⌝ }
+    requires { ⌜ rows ≤ rowLimit ⌝ }
     ensures { λ r. ⌜ r ≡ readItems (now (file .entry)) rows events ⌝ }
 {
     let bad = search::first_bad_row(file, rows);
@@ -48,7 +47,7 @@ fn read_items(file: &[u8], rows: u16, events: u16) -> Reading
 
 // The rest of a file that has room for its rows: what else its contents part has to hold, and its items.
 fn read_contents(file: &[u8]) -> Reading
-    requires { ⌜ rowsOf (now file) ≤ 1024 ⌝ }
+    requires { ⌜ rowsOf (now file) ≤ rowLimit ⌝ }
     ensures { λ r. ⌜ r ≡ choose (wrongContents (headerOf (now (file .entry))) (length (now (file .entry)))) (Refused WrongContents)
         (readItems (now (file .entry)) (rowsOf (now (file .entry))) (eventsOf (now (file .entry)))) ⌝ }
 {
@@ -83,7 +82,7 @@ pub fn read(file: &[u8]) -> Reading
     if authority {
         return Reading::Refused(Cause::WrongSet);
     }
-    if MOST_ROWS < h.rows {
+    if ROWS < h.rows {
         return Reading::Refused(Cause::WrongContents);
     }
     read_contents(file)

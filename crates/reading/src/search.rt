@@ -2,15 +2,17 @@
 use lines::event_fits;
 use lines::row_fits;
 use trace::events::parts_at;
+use trace::limits::ROW_LIMIT;
 use trace::rows::Fields;
 use trace::rows::fields_at;
 ghost use mathlib.Core.Path.{_≡_};
 ghost use Prim.Native.Nat.{_≤_, _<_};
 ghost use lib.ListN.{getD};
+ghost use Rattle.trace.specs.File.{rowLimit};
 ghost use Rattle.trace.specs.First.{first};
 ghost use Rattle.trace.specs.Rows.{fieldsAt};
 ghost use Rattle.trace.specs.Refusal.{badRow, repeatedRow, badEvent, sameFields};
-ghost use Rattle.trace.specs.Chain.{bucketOf, tagOf, Tagged, Down, Searched};
+ghost use Rattle.trace.specs.Chain.{buckets, bucketOf, tagOf, Tagged, Down, Searched};
 
 const BUCKETS: usize = 1024;
 
@@ -58,7 +60,7 @@ fn same_fields(f: Fields, g: Fields) -> bool
 
 // Odd factors spread the rows of a usual file over all buckets.
 fn bucket(f: Fields) -> usize
-    ensures { λ h. ⌜ (h ≡ bucketOf f) × (h < 1024) ⌝ }
+    ensures { λ h. ⌜ (h ≡ bucketOf f) × (h < buckets) ⌝ }
 {
     ((f.kind as usize) * 97
         + (f.role as usize) * 31
@@ -76,8 +78,8 @@ fn tag(f: Fields) -> u32
 }
 
 // Whether the row has these fields. It is read only where its tag is theirs.
-fn same_row(file: &[u8], tags: &[u32; 1024], row: u16, f: Fields) -> bool
-    requires { ⌜ row < 1024 ⌝ }
+fn same_row(file: &[u8], tags: &[u32; ROW_LIMIT], row: u16, f: Fields) -> bool
+    requires { ⌜ row < rowLimit ⌝ }
     requires { ⌜ getD (now tags) row 0 ≡ tagOf (fieldsAt (now file) row) ⌝ }
     ensures { λ b. ⌜ b ≡ sameFields (fieldsAt (now (file .entry)) row) f ⌝ }
 {
@@ -89,10 +91,16 @@ fn same_row(file: &[u8], tags: &[u32; 1024], row: u16, f: Fields) -> bool
 }
 
 // Whether a row of the chain has these fields. A chain's link is one more than a row's number, and 0 at the end.
-fn in_chain(file: &[u8], nexts: &[u16; 1024], tags: &[u32; 1024], head: u16, f: Fields) -> bool
+fn in_chain(
+    file: &[u8],
+    nexts: &[u16; ROW_LIMIT],
+    tags: &[u32; ROW_LIMIT],
+    head: u16,
+    f: Fields,
+) -> bool
     requires { ⌜ Down (now nexts) ⌝ }
     requires { ⌜ Tagged (now file) (now tags) head ⌝ }
-    requires { ⌜ head ≤ 1024 ⌝ }
+    requires { ⌜ head ≤ rowLimit ⌝ }
     ensures { λ b. ⌜ Searched (now (file .entry)) (now (nexts .entry)) head f b ⌝ }
 {
     let mut link = head;
@@ -109,12 +117,12 @@ fn in_chain(file: &[u8], nexts: &[u16; 1024], tags: &[u32; 1024], head: u16, f: 
 
 // The lowest row that equals an earlier one, or `rows`. Earlier rows are chained by bucket, so few are compared.
 pub fn first_repeated_row(file: &[u8], rows: u16) -> u16
-    requires { ⌜ rows ≤ 1024 ⌝ }
+    requires { ⌜ rows ≤ rowLimit ⌝ }
     ensures { λ r. ⌜ r ≡ first (repeatedRow (now (file .entry))) rows ⌝ }
 {
-    let mut heads = [0u16; 1024];
-    let mut nexts = [0u16; 1024];
-    let mut tags = [0u32; 1024];
+    let mut heads = [0u16; BUCKETS];
+    let mut nexts = [0u16; ROW_LIMIT];
+    let mut tags = [0u32; ROW_LIMIT];
     let mut r: u16 = 0;
     while r < rows {
         let f = fields_at(file, r);

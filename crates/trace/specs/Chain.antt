@@ -8,8 +8,11 @@ use lib.ListN.{getD}
 use Rattle.trace.specs.Rows.{fieldsAt}
 use Rattle.trace.specs.declared.rows.Fields.{Fields}
 
+abbrev pub buckets : ℕ
+buckets = 1024
+
 abbrev pub bucketOf : Fields → ℕ
-bucketOf f = (f .kind * 97 + f .role * 31 + f .first * 7 + f .second * 61 + f .third * 523) % 1024
+bucketOf f = (f .kind * 97 + f .role * 31 + f .first * 7 + f .second * 61 + f .third * 523) % buckets
 
 -- rows whose tags differ are different, and the tag of a row is kept beside its link
 abbrev pub tagOf : Fields → ℕ

@@ -5,7 +5,7 @@ use mathlib.Core.Path.{_≡_}
 use lib.Dec.{leb}
 use lib.ListN.{length, take, drop}
 use denote.Ref.{RefT, now, ptr}
-use Rattle.trace.specs.File.{rowsAt}
+use Rattle.trace.specs.File.{rowsAt, rowLimit, eventLimit}
 use Rattle.trace.specs.Rows.{choose}
 use Rattle.trace.specs.Events.{eventsAt}
 use Rattle.trace.specs.Refusal.{numberOf, reading, Told}
@@ -48,7 +48,7 @@ pub record Part (file : RefT (List ℕ)) (span : Span) (part : RefT (List ℕ)) 
 
 -- a span that the file has, below the end of the longest file that is read
 abbrev pub longestFile : ℕ
-longestFile = rowsAt + 8 * 1024 + 8 * 512
+longestFile = rowsAt + 8 * rowLimit + 8 * eventLimit
 
 pub record Inside (file : List ℕ) (span : Span) : Type 0 where
   pub there : span .start + span .size ≤ length file

@@ -17,6 +17,12 @@ word file at = byte file at + 256 * byte file (at + 1)
 abbrev pub rowsAt : ℕ
 rowsAt = 20
 
+abbrev pub rowLimit : ℕ
+rowLimit = 1024
+
+abbrev pub eventLimit : ℕ
+eventLimit = 512
+
 abbrev pub agentLimit : ℕ
 agentLimit = 64
 
@@ -50,8 +56,8 @@ wrongSet file = not (compromisedIn file 0) || compromisedIn file 1
 
 abbrev pub wrongContents : Header → ℕ → Bool
 wrongContents h len =
-    ltb 1024 (h .rows) ||
-    ltb 512 (h .events) ||
+    ltb rowLimit (h .rows) ||
+    ltb eventLimit (h .events) ||
     not (eqb (h .«rows_at») rowsAt) ||
     not (eqb (h .«events_at») (rowsAt + 8 * h .rows)) ||
     not (eqb len (rowsAt + 8 * h .rows + 8 * h .events))

@@ -4,7 +4,7 @@ use Prim.Native.Nat.{ℕ, _<_, _≤_}
 use mathlib.Core.List.{List}
 use mathlib.Core.Path.{_≡_}
 use Rattle.paper.specs.Message as paper
-use Rattle.trace.specs.File.{rowsOf, eventsOf, agentLimit}
+use Rattle.trace.specs.File.{rowLimit, eventLimit, agentLimit, rowsOf, eventsOf}
 use Rattle.trace.specs.Rows.{rowAt}
 use Rattle.trace.specs.Events.{eventAt}
 use Rattle.trace.specs.Refusal.{reading}
@@ -76,8 +76,8 @@ pub data Exists (file : List ℕ) : Event → Type 0 where
   notes : {a : AgentNo} {r : RowNo} → a .0 < agentLimit → r .0 < rowsOf file → Exists file (Notes a r)
 
 pub record Promised (file : List ℕ) : Type 0 where
-  pub few-rows : rowsOf file ≤ 1024
-  pub few-events : eventsOf file ≤ 512
+  pub few-rows : rowsOf file ≤ rowLimit
+  pub few-events : eventsOf file ≤ eventLimit
   pub spy-bad : bad file paper.Spy
   pub authority-good : ¬ bad file paper.Authority
   pub keeps : (r : ℕ) → r < rowsOf file → Keeps file r (rowAt file r)

@@ -3,9 +3,9 @@ use super::AgentNo;
 use super::Event;
 use super::RowNo;
 use super::bytes;
-use super::header::ITEM;
-use super::header::ROWS_AT;
 use super::header::rows_of;
+use super::limits::ITEM;
+use super::limits::ROWS_AT;
 ghost use mathlib.Core.Path.{_≡_};
 ghost use Rattle.trace.specs.Events.{partsAt, eventOf};
 

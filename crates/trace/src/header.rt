@@ -1,13 +1,9 @@
 // The contents part, read in one place.
 use super::bytes;
+use super::limits::AGENTS;
+use super::limits::ROWS_AT;
 ghost use mathlib.Core.Path.{_≡_};
 ghost use Rattle.trace.specs.File.{headerOf, rowsOf, compromisedIn};
-
-pub const ROWS_AT: usize = 20;
-
-pub const ITEM: usize = 8;
-
-pub const AGENTS: u16 = 64;
 
 const SET_AT: usize = 4;
 

@@ -3,6 +3,7 @@
 mod bytes;
 pub mod events;
 pub mod header;
+pub mod limits;
 mod parts;
 pub mod rows;
 

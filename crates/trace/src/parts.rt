@@ -1,8 +1,8 @@
 // Where parts of the lent file lie: the eight bytes of a row or an event.
 use super::Span;
-use super::header::ITEM;
-use super::header::ROWS_AT;
 use super::header::rows_of;
+use super::limits::ITEM;
+use super::limits::ROWS_AT;
 ghost use Prim.Native.Nat.{_+_, _<_};
 ghost use mathlib.Core.Path.{_≡_};
 ghost use lib.Dec.{leb};

@@ -6,8 +6,8 @@ use super::Role;
 use super::Row;
 use super::RowNo;
 use super::bytes;
-use super::header::ITEM;
-use super::header::ROWS_AT;
+use super::limits::ITEM;
+use super::limits::ROWS_AT;
 ghost use mathlib.Core.Path.{_≡_};
 ghost use Rattle.trace.specs.Rows.{fieldsAt, kindAt, roleOf, rowOf};
 
