@@ -5,8 +5,7 @@ use trace::rows::Fields;
 use trace::rows::fields_at;
 use trace::rows::kind_at;
 ghost use mathlib.Core.Path.{_≡_};
-ghost use Rattle.trace.specs.Rows.{agentLine, valueLine, nonceBelow, keyBelow, threeNonces, nonceLine, keyLine, hashLine, cryptLine, pairLine, rowFits};
-ghost use Rattle.trace.specs.Events.{eventFits};
+ghost use Rattle.trace.specs.Tests.{agentLine, valueLine, nonceBelow, keyBelow, threeNonces, nonceLine, keyLine, hashLine, cryptLine, pairLine, rowFits, eventFits};
 
 fn agent_line(f: Fields) -> bool
     ensures { λ b. ⌜ b ≡ agentLine f ⌝ }

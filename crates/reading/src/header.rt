@@ -5,7 +5,8 @@ use trace::limits::ITEM;
 use trace::limits::ROWS_AT;
 ghost use mathlib.Core.Path.{_≡_};
 ghost use Prim.Native.Nat.{_≤_};
-ghost use Rattle.trace.specs.File.{rowLimit, wrongContents};
+ghost use Rattle.trace.specs.File.{rowLimit};
+ghost use Rattle.trace.specs.Tests.{wrongContents};
 
 // Of a file that has not too many rows.
 pub fn wrong_contents(h: Header, len: usize) -> bool

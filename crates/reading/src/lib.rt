@@ -13,11 +13,12 @@ use trace::limits::ROWS_AT;
 ghost use mathlib.Core.Path.{_≡_};
 ghost use Prim.Native.Nat.{_≤_};
 ghost use lib.ListN.{length};
-ghost use Rattle.trace.specs.File.{rowLimit, headerOf, rowsOf, eventsOf, wrongContents};
+ghost use Rattle.trace.specs.File.{rowLimit, rowsOf, eventsOf};
 ghost use Rattle.trace.specs.Rows.{choose};
+ghost use Rattle.trace.specs.Tests.{headerOf, wrongContents};
+ghost use Rattle.trace.specs.Reading.{readItems, reading};
 ghost use Rattle.trace.specs.declared.Cause.the-variants.{WrongContents};
 ghost use Rattle.trace.specs.declared.Reading.the-variants.{Refused};
-ghost use Rattle.trace.specs.Refusal.{readItems, reading};
 
 const VERSION: u16 = 1;
 

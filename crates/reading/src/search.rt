@@ -9,9 +9,9 @@ ghost use mathlib.Core.Path.{_≡_};
 ghost use Prim.Native.Nat.{_≤_, _<_};
 ghost use lib.ListN.{getD};
 ghost use Rattle.trace.specs.File.{rowLimit};
-ghost use Rattle.trace.specs.First.{first};
 ghost use Rattle.trace.specs.Rows.{fieldsAt};
-ghost use Rattle.trace.specs.Refusal.{badRow, repeatedRow, badEvent, sameFields};
+ghost use Rattle.trace.specs.Tests.{badRow, repeatedRow, badEvent, sameFields};
+ghost use Rattle.trace.specs.First.{first};
 ghost use Rattle.trace.specs.Chain.{buckets, bucketOf, tagOf, Tagged, Down, Searched};
 
 const BUCKETS: usize = 1024;

@@ -1,6 +1,7 @@
--- Tests joined: of a conjunction that passes each passes, and what a test that is known leaves.
+-- Tests joined: of a conjunction that passes each passes, of a disjunction one; and what a test that is known leaves.
 -- Assumes nothing.
 use mathlib.Core.Bool.{Bool, true, false, _&&_, _||_, true≢false}
+use mathlib.Core.Logic.{_⊎_, inl, inr}
 use mathlib.Core.Path.{_≡_, refl, sym}
 
 pub both : (a b : Bool) → (a && b) ≡ true → (a ≡ true) × (b ≡ true)
@@ -39,3 +40,15 @@ or-true false = refl
 pub or-none : (a : Bool) → (a || false) ≡ a
 or-none true = refl
 or-none false = refl
+
+pub or-false : (a b : Bool) → (a || b) ≡ false → a ≡ false
+or-false true b e = e
+or-false false b e = refl
+
+pub or-false-right : (a b : Bool) → (a || b) ≡ false → b ≡ false
+or-false-right true b e = absurd (true≢false e)
+or-false-right false b e = e
+
+pub either : (a b : Bool) → (a || b) ≡ true → (a ≡ true) ⊎ (b ≡ true)
+either true b e = inl refl
+either false b e = inr e

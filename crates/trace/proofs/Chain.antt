@@ -12,8 +12,8 @@ use mathlib.Core.Bool.{true, false}
 use mathlib.Core.Logic.{⊎-elim}
 use lib.Seq.{getD-set-same, getD-set-other}
 use Rattle.trace.specs.Rows.{fieldsAt}
+use Rattle.trace.specs.Tests.{sameFields, repeatedRow}
 use Rattle.trace.specs.Chain.{bucketOf, tagOf, Tagged, Down, Searched, Reach, here, further}
-use Rattle.trace.specs.Refusal.{sameFields, repeatedRow}
 use Rattle.trace.specs.declared.rows.Fields.{Fields}
 use Rattle.trace.proofs.First.{lt-suc, any-none, any-some}
 use Rattle.trace.proofs.Both.{refuted}

@@ -1,10 +1,13 @@
 pub mod First
 pub mod Both
+pub mod Causes
 pub mod Lines
 pub mod Same
-pub mod Chain
+pub mod Fits
+pub mod Tested
 pub mod Refusal
 pub mod Told
+pub mod Chain
 pub mod Fault
 pub mod Keeps
 pub mod Meaning

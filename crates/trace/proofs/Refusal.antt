@@ -1,45 +1,17 @@
 -- `reading`, case by case: the tests before one fail, and it passes.
 -- Assumes nothing.
-use Prim.Native.Nat.{ℕ, _+_, _*_, _<_, _≤_}
-use mathlib.Core.Bool.{Bool, true, false, _||_, not, true≢false}
+use Prim.Native.Nat.{ℕ, _<_, _≤_}
+use mathlib.Core.Bool.{true, false}
 use mathlib.Core.List.{List}
-use mathlib.Core.Path.{_≡_, refl}
-use lib.Dec.{ltb, eqb}
+use mathlib.Core.Path.{_≡_}
 use lib.ListN.{length}
-use borrow.Author.Tests.{lt-ltb, le-ltb, ltb-false, eqb-true, not-false}
-use Rattle.trace.specs.File.{rowsAt, headerOf, rowsOf, eventsOf, wrongVersion, wrongSet, wrongContents}
+use borrow.Author.Tests.{lt-ltb, le-ltb}
+use Rattle.trace.specs.File.{rowsAt, rowsOf, eventsOf}
+use Rattle.trace.specs.Tests.{headerOf, wrongVersion, wrongSet, wrongContents, badRow, repeatedRow, badEvent}
+use Rattle.trace.specs.Reading.{readItems, reading}
 use Rattle.trace.specs.First.{first}
-use Rattle.trace.specs.Refusal.{badRow, repeatedRow, badEvent, readItems, reading}
-use Rattle.trace.specs.declared.header.Header.{Header}
 use Rattle.trace.specs.declared.Cause.the-variants.{TooShort, WrongVersion, WrongSet, WrongContents, BadRow, RepeatedRow, BadEvent}
 use Rattle.trace.specs.declared.Reading.the-variants.{Refused, Readable}
-
-pub or-false : (a b : Bool) → (a || b) ≡ false → a ≡ false
-or-false true b e = e
-or-false false b e = refl
-
-pub or-false-right : (a b : Bool) → (a || b) ≡ false → b ≡ false
-or-false-right true b e = absurd (true≢false e)
-or-false-right false b e = e
-
--- contents that are right have few rows and few events
-module _ (h : Header) (len : ℕ) (right : wrongContents h len ≡ false) where
-  pub whole-length : len ≡ rowsAt + 8 * h .rows + 8 * h .events
-  whole-length =
-      eqb-true len _
-      (not-false _
-      (or-false-right
-      (ltb 1024 (h .rows) || ltb 512 (h .events) || not (eqb (h .«rows_at») rowsAt) || not (eqb (h .«events_at») (rowsAt + 8 * h .rows)))
-      _ right))
-
-  few : (ltb 1024 (h .rows) || ltb 512 (h .events)) ≡ false
-  few = or-false _ _ (or-false _ _ (or-false _ _ right))
-
-  pub few-rows : h .rows ≤ 1024
-  few-rows = ltb-false _ _ (or-false _ _ few)
-
-  pub few-events : h .events ≤ 512
-  few-events = ltb-false _ _ (or-false-right (ltb 1024 (h .rows)) _ few)
 
 module _ (file : List ℕ) where
   pub reading-short : length file < rowsAt → reading file ≡ Refused TooShort

@@ -4,7 +4,7 @@ use mathlib.Core.Bool.{Bool, true, false, _&&_, true≢false}
 use mathlib.Core.Path.{_≡_, refl, sym, _∙_}
 use lib.Dec.{eqb}
 use borrow.Author.Tests.{eqb-true, eq-eqb}
-use Rattle.trace.specs.Refusal.{sameFields}
+use Rattle.trace.specs.Tests.{sameFields}
 use Rattle.trace.specs.declared.rows.Fields.{Fields}
 use Rattle.trace.proofs.Both.{both4, both}
 

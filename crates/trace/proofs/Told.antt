@@ -1,176 +1,325 @@
--- The table has one answer, and `reading` gives it: a cause is fixed by its number, and of two numbers the lower applies.
--- Assumes nothing.
-use Prim.Native.Nat.{ℕ, _<_, _≤_}
-use mathlib.Core.Bool.{Bool, true, false, true≢false}
+-- The table has one answer, and `reading` gives it. Each line's test says whether the line holds, no two places satisfy one line, and of two
+-- numbers the lower applies. Assumes nothing.
+use Prim.Native.Nat.{ℕ, suc, _+_, _*_, _<_, _≤_}
+use mathlib.Core.Bool.{Bool, true, false, true≢false, _||_, not}
 use mathlib.Core.List.{List}
-use mathlib.Core.Logic.{_⊎_, inl, inr}
+use mathlib.Core.Logic.{_⊎_, inl, inr, ⊎-elim}
 use mathlib.Core.Path.{_≡_, refl, sym, _∙_, ap}
 use native.Mathlib.Omega.{arith}
-use native.Mathlib.Decide.{decLt}
-use lib.Dec.{eqb}
+use native.Mathlib.Decide.{decLt, ℕ-discrete}
+use lib.Dec.{eqb, ltb}
 use lib.ListN.{length}
-use Rattle.trace.specs.File.{rowsAt, headerOf, rowsOf, eventsOf, wrongVersion, wrongSet, wrongContents}
+use borrow.Author.Tests.{eqb-true, eqb-false, ltb-true, ltb-false, not-true, not-false}
+use Rattle.trace.specs.File.{word, rowLimit, eventLimit, rowsAt, rowsOf, eventsOf, eventsAt, compromisedIn}
+use Rattle.trace.specs.Refusal.{numberOf, placeOf, Lowest, Broken, Repeated, Malformed, Wrong, short, version, reserved, spy, authority, rows, events, rows-offset, events-offset, size, row, repeated, event, Told, refused, readable}
 use Rattle.trace.specs.First.{first}
-use Rattle.trace.specs.Rows.{choose}
-use Rattle.trace.specs.Refusal.{numberOf, badRow, repeatedRow, badEvent, Lowest, Wrong, short, version, set, contents, row, repeated, event, Told, refused, readable, readItems, reading, Refusals}
+use Rattle.trace.specs.Tests.{headerOf, wrongVersion, wrongSet, wrongContents, badRow, repeatedRow, badEvent}
+use Rattle.trace.specs.Reading.{readItems, reading}
+use Rattle.trace.specs.Promises.{Refusals}
 use Rattle.trace.specs.declared.Cause.{Cause}
 use Rattle.trace.specs.declared.Cause.the-variants.{TooShort, WrongVersion, WrongSet, WrongContents, BadRow, RepeatedRow, BadEvent}
 use Rattle.trace.specs.declared.Reading.{Reading}
-use Rattle.trace.specs.declared.Reading.the-variants.{Refused}
-use Rattle.trace.proofs.First.{find, first-found, first-none, bool-cases}
-use Rattle.trace.proofs.Both.{refuted}
+use Rattle.trace.specs.declared.Reading.the-variants.{Refused, Readable}
+use Rattle.trace.proofs.First.{find, first-found, first-none, any-some, any-inv, bool-cases, lt-suc}
+use Rattle.trace.proofs.Both.{either, or-false, or-false-right}
+use Rattle.trace.proofs.Causes.{causeOf, cause-numbered, one-cause, number-range}
+use Rattle.trace.proofs.Tested.{tested}
 use Rattle.trace.proofs.Refusal.{reading-short, reading-version, reading-set, reading-contents, reading-items, items-row, items-repeat, items-event, items-readable}
 
-lowest-first : (p : ℕ → Bool) (n k : ℕ) → Lowest p n k → k ≡ first p n
-lowest-first p n k l = sym (first-found p n k (l .below) (λ j h. refuted (p j) (l .lowest j h)) (l .holds))
+-- a test that says whether a property holds of each number
+pub record Decides (p : ℕ → Bool) (P : ℕ → Type 0) : Type 0 where
+  pub holds : (k : ℕ) → p k ≡ true → P k
+  pub fails : (k : ℕ) → p k ≡ false → ¬ P k
+
+abbrev pub None : (ℕ → Bool) → ℕ → Type 0
+None p n = (k : ℕ) → k < n → p k ≡ false
+
+abbrev Found : (ℕ → Bool) → ℕ → Type 0
+Found p n = ((k : ℕ) × (k < n) × (p k ≡ true) × ((j : ℕ) → j < k → p j ≡ false)) ⊎ None p n
+
+module _ {p : ℕ → Bool} {P : ℕ → Type 0} (d : Decides p P) where
+  lowest : (n k : ℕ) → k < n → p k ≡ true → ((j : ℕ) → j < k → p j ≡ false) → Lowest P n k
+  lowest n k l t h = record { below = l; holds = d .holds k t; lowest = λ j lj. d .fails j (h j lj) }
+
+  none-lowest : (n : ℕ) → None p n → (k : ℕ) → ¬ Lowest P n k
+  none-lowest n none k l = d .fails k (none k (l .below)) (l .holds)
+
+  -- what is nowhere the lowest is nowhere
+  pub lowest-none : (n : ℕ) → ((k : ℕ) → ¬ Lowest P n k) → None p n
+  lowest-none n not-lowest = go (find p n)
+    where
+      go : Found p n → None p n
+      go (inl (k, l, t, h)) = absurd (not-lowest k (lowest n k l t h))
+      go (inr none) = none
+
+lowest-one : (P : ℕ → Type 0) (n j k : ℕ) → Lowest P n j → Lowest P n k → j ≡ k
+lowest-one P n j k a b =
+    let l : ¬ (j < k) = λ h. b .lowest j h (a .holds) in
+    let m : ¬ (k < j) = λ h. a .lowest k h (b .holds) in
+    omega arith
 
 module _ (file : List ℕ) where
-  -- the cause of a number
-  abbrev cause : ℕ → Cause
-  cause k =
-      choose (eqb k 1) TooShort
-      (choose (eqb k 2) WrongVersion
-      (choose (eqb k 3) WrongSet
-      (choose (eqb k 4) WrongContents
-      (choose (eqb k 5) (BadRow (record { 0 = first (badRow file) (rowsOf file) }))
-      (choose (eqb k 6) (RepeatedRow (record { 0 = first (repeatedRow file) (rowsOf file) }))
-      (BadEvent (record { 0 = first (badEvent file (rowsOf file)) (eventsOf file) })))))))
+  -- each line's test, both ways
+  is-version : wrongVersion (headerOf file) ≡ true → Wrong file WrongVersion
+  is-version t =
+      ⊎-elim (λ a. version (eqb-false _ 1 (not-true _ a))) (λ a. reserved (eqb-false _ 0 (not-true _ a))) (either _ (not (eqb (word file 2) 0)) t)
 
-  by-number : {c : Cause} → Wrong file c → c ≡ cause (numberOf c)
-  by-number (short l) = refl
-  by-number (version e) = refl
-  by-number (set e) = refl
-  by-number (contents e) = refl
-  by-number (row l) = ap (λ (k : ℕ). BadRow (record { 0 = k })) (lowest-first _ _ _ l)
-  by-number (repeated l) = ap (λ (k : ℕ). RepeatedRow (record { 0 = k })) (lowest-first _ _ _ l)
-  by-number (event l) = ap (λ (k : ℕ). BadEvent (record { 0 = k })) (lowest-first _ _ _ l)
+  not-version : wrongVersion (headerOf file) ≡ false → ¬ Wrong file WrongVersion
+  not-version f (version n) = n (eqb-true _ 1 (not-false _ (or-false _ (not (eqb (word file 2) 0)) f)))
+  not-version f (reserved n) = n (eqb-true _ 0 (not-false _ (or-false-right (not (eqb (word file 0) 1)) _ f)))
 
-  one-cause : {c d : Cause} → Wrong file c → Wrong file d → ¬ (numberOf d < numberOf c) → ¬ (numberOf c < numberOf d) → c ≡ d
-  one-cause {c} {d} v w n m =
-      let e : numberOf c ≡ numberOf d = omega arith in
-      by-number v ∙ ap cause e ∙ sym (by-number w)
+  is-set : wrongSet file ≡ true → Wrong file WrongSet
+  is-set t = ⊎-elim (λ a. spy (λ b. true≢false (sym b ∙ not-true _ a))) authority (either _ (compromisedIn file 1) t)
 
-  pub told-one : (r s : Reading) → Told file r → Told file s → r ≡ s
-  told-one r s (refused v n) (refused w m) = ap Refused (one-cause v w (λ l. n _ l w) (λ l. m _ l v))
+  not-set : wrongSet file ≡ false → ¬ Wrong file WrongSet
+  not-set f (spy n) = n (not-false _ (or-false _ (compromisedIn file 1) f))
+  not-set f (authority b) = true≢false (sym b ∙ or-false-right (not (compromisedIn file 0)) _ f)
+
+  -- the five tests of the contents part
+  abbrev a : Bool
+  a = ltb rowLimit (rowsOf file)
+
+  abbrev b : Bool
+  b = ltb eventLimit (eventsOf file)
+
+  abbrev c : Bool
+  c = not (eqb (word file 12) rowsAt)
+
+  abbrev d : Bool
+  d = not (eqb (word file 16) (eventsAt file))
+
+  abbrev e : Bool
+  e = not (eqb (length file) (eventsAt file + 8 * eventsOf file))
+
+  is-contents : wrongContents (headerOf file) (length file) ≡ true → Wrong file WrongContents
+  is-contents t = ⊎-elim four (λ h. size (eqb-false _ _ (not-true _ h))) (either (a || b || c || d) e t)
+    where
+      two : (a || b) ≡ true → Wrong file WrongContents
+      two h = ⊎-elim (λ g. rows (ltb-true _ _ g)) (λ g. events (ltb-true _ _ g)) (either a b h)
+
+      three : (a || b || c) ≡ true → Wrong file WrongContents
+      three h = ⊎-elim two (λ g. rows-offset (eqb-false _ _ (not-true _ g))) (either (a || b) c h)
+
+      four : (a || b || c || d) ≡ true → Wrong file WrongContents
+      four h = ⊎-elim three (λ g. events-offset (eqb-false _ _ (not-true _ g))) (either (a || b || c) d h)
+
+  not-contents : wrongContents (headerOf file) (length file) ≡ false → ¬ Wrong file WrongContents
+  not-contents f = go
+    where
+      four : (a || b || c || d) ≡ false
+      four = or-false (a || b || c || d) e f
+
+      three : (a || b || c) ≡ false
+      three = or-false (a || b || c) d four
+
+      two : (a || b) ≡ false
+      two = or-false (a || b) c three
+
+      go : ¬ Wrong file WrongContents
+      go (rows l) = omega (arith, ltb-false rowLimit (rowsOf file) (or-false a b two))
+      go (events l) = omega (arith, ltb-false eventLimit (eventsOf file) (or-false-right a b two))
+      go (rows-offset n) = n (eqb-true _ _ (not-false _ (or-false-right (a || b) c three)))
+      go (events-offset n) = n (eqb-true _ _ (not-false _ (or-false-right (a || b || c) d four)))
+      go (size n) = n (eqb-true _ _ (not-false _ (or-false-right (a || b || c || d) e f)))
+
+  pub rows-decided : Decides (badRow file) (Broken file)
+  rows-decided =
+      record {
+        holds = λ r t l. true≢false (sym (tested .line file r .1 l) ∙ not-true _ t);
+        fails = λ r f n. n (tested .line file r .0 (not-false _ f));
+      }
+
+  pub repeats-decided : Decides (repeatedRow file) (Repeated file)
+  repeats-decided =
+      record {
+        holds = λ r t. let h = any-inv _ r t in (h .0, h .1, tested .same file (h .0) r .0 (h .2));
+        fails = λ r f (s, l, h). true≢false (sym (any-some _ r s l (tested .same file s r .1 h)) ∙ f);
+      }
+
+  pub events-decided : Decides (badEvent file (rowsOf file)) (Malformed file)
+  events-decided =
+      record {
+        holds = λ e t l. true≢false (sym (tested .event file e .1 l) ∙ not-true _ t);
+        fails = λ e f n. n (tested .event file e .0 (not-false _ f));
+      }
+
+  -- no cause below a number
+  abbrev NoneBelow : ℕ → Type 0
+  NoneBelow k = (d : Cause) → numberOf d < k → ¬ Wrong file d
+
+  none-below : NoneBelow 1
+  none-below d l w = omega (arith, number-range d .0)
+
+  none-more : (k : ℕ) → NoneBelow k → ((p : ℕ) → ¬ Wrong file (causeOf k p)) → NoneBelow (suc k)
+  none-more k none here d l w =
+      ⊎-elim (λ (h : numberOf d < k). none d h w) (λ (h : numberOf d ≡ k). here (placeOf d) (rw (← cause-numbered d k h) w)) (lt-suc (numberOf d) k l)
+
+  pub wrong-number : {c : Cause} → Wrong file c → numberOf c < 8
+  wrong-number (short l) = omega arith
+  wrong-number (version n) = omega arith
+  wrong-number (reserved n) = omega arith
+  wrong-number (spy n) = omega arith
+  wrong-number (authority b) = omega arith
+  wrong-number (rows l) = omega arith
+  wrong-number (events l) = omega arith
+  wrong-number (rows-offset n) = omega arith
+  wrong-number (events-offset n) = omega arith
+  wrong-number (size n) = omega arith
+  wrong-number (row l) = omega arith
+  wrong-number (repeated l) = omega arith
+  wrong-number (event l) = omega arith
+
+  -- the table, tried from the top
+  not-short : rowsAt ≤ length file → ¬ Wrong file TooShort
+  not-short l (short h) = omega arith
+
+  not-row : None (badRow file) (rowsOf file) → (r : ℕ) → ¬ Wrong file (BadRow (record { 0 = r }))
+  not-row none r (row l) = none-lowest rows-decided (rowsOf file) none r l
+
+  not-repeated : None (repeatedRow file) (rowsOf file) → (r : ℕ) → ¬ Wrong file (RepeatedRow (record { 0 = r }))
+  not-repeated none r (repeated l) = none-lowest repeats-decided (rowsOf file) none r l
+
+  not-event : None (badEvent file (rowsOf file)) (eventsOf file) → (r : ℕ) → ¬ Wrong file (BadEvent (record { 0 = r }))
+  not-event none r (event l) = none-lowest events-decided (eventsOf file) none r l
+
+  module _ (items : reading file ≡ readItems file (rowsOf file) (eventsOf file)) where
+    module _ (fit : None (badRow file) (rowsOf file)) where
+      bad-rows : rowsOf file ≡ first (badRow file) (rowsOf file)
+      bad-rows = sym (first-none (badRow file) (rowsOf file) fit)
+
+      module _ (apart : None (repeatedRow file) (rowsOf file)) where
+        repeats : rowsOf file ≡ first (repeatedRow file) (rowsOf file)
+        repeats = sym (first-none (repeatedRow file) (rowsOf file) apart)
+
+        told-event : NoneBelow 7 → Found (badEvent file (rowsOf file)) (eventsOf file) → Told file (reading file)
+        told-event none (inl (k, l, t, h)) =
+            rw
+            (items ∙
+            items-event file (rowsOf file) (eventsOf file) _ bad-rows _ (omega arith) repeats k (omega arith) (sym (first-found (badEvent file (rowsOf file)) _ k l h t)) l)
+            (refused (event (lowest events-decided _ k l t h)) none)
+        told-event none (inr fit-events) =
+            rw
+            (items ∙
+            items-readable file (rowsOf file) (eventsOf file) _ bad-rows _ (omega arith) repeats _ (omega arith) (sym (first-none (badEvent file (rowsOf file)) _ fit-events)) (omega arith))
+            (readable (λ c w. none-more 7 none (not-event fit-events) c (wrong-number w) w))
+
+      told-repeat : NoneBelow 6 → Found (repeatedRow file) (rowsOf file) → Told file (reading file)
+      told-repeat none (inl (r, l, t, h)) =
+          rw
+          (items ∙
+          items-repeat file (rowsOf file) (eventsOf file) _ bad-rows r (omega arith) (sym (first-found (repeatedRow file) _ r l h t)) l)
+          (refused (repeated (lowest repeats-decided _ r l t h)) none)
+      told-repeat none (inr apart) =
+          told-event apart (none-more 6 none (not-repeated apart)) (find (badEvent file (rowsOf file)) (eventsOf file))
+
+    told-row : NoneBelow 5 → Found (badRow file) (rowsOf file) → Told file (reading file)
+    told-row none (inl (r, l, t, h)) =
+        rw (items ∙ items-row file (rowsOf file) (eventsOf file) r (sym (first-found (badRow file) _ r l h t)) l)
+        (refused (row (lowest rows-decided _ r l t h)) none)
+    told-row none (inr fit) = told-repeat fit (none-more 5 none (not-row fit)) (find (repeatedRow file) (rowsOf file))
+
+  abbrev Either : Bool → Type 0
+  Either t = (t ≡ true) ⊎ (t ≡ false)
+
+  module _ (long : rowsAt ≤ length file) where
+    told-contents : wrongVersion (headerOf file) ≡ false → wrongSet file ≡ false → NoneBelow 4 →
+        Either (wrongContents (headerOf file) (length file)) → Told file (reading file)
+    told-contents v s none (inl w) = rw (reading-contents file long v s w) (refused (is-contents w) none)
+    told-contents v s none (inr w) =
+        told-row (reading-items file long v s w) (none-more 4 none (λ p. not-contents w)) (find (badRow file) (rowsOf file))
+
+    told-set : wrongVersion (headerOf file) ≡ false → NoneBelow 3 → Either (wrongSet file) → Told file (reading file)
+    told-set v none (inl s) = rw (reading-set file long v s) (refused (is-set s) none)
+    told-set v none (inr s) =
+        told-contents v s (none-more 3 none (λ p. not-set s)) (bool-cases (wrongContents (headerOf file) (length file)))
+
+    told-version : NoneBelow 2 → Either (wrongVersion (headerOf file)) → Told file (reading file)
+    told-version none (inl v) = rw (reading-version file long v) (refused (is-version v) none)
+    told-version none (inr v) = told-set v (none-more 2 none (λ p. not-version v)) (bool-cases (wrongSet file))
+
+  told-short : Dec (length file < rowsAt) → Told file (reading file)
+  told-short (yes l) = rw (reading-short file l) (refused (short l) none-below)
+  told-short (no n) =
+      let long : rowsAt ≤ length file = omega arith in
+      told-version long (none-more 1 none-below (λ p. not-short long)) (bool-cases (wrongVersion (headerOf file)))
+
+  -- a place is fixed by its number
+  abbrev Placed : (number place : ℕ) → Type 0
+  Placed k p =
+      (k < 5 → p ≡ 0) × (k ≡ 5 → Lowest (Broken file) (rowsOf file) p) × (k ≡ 6 → Lowest (Repeated file) (rowsOf file) p) ×
+      (k ≡ 7 → Lowest (Malformed file) (eventsOf file) p)
+
+  placed-low : (k : ℕ) → k < 5 → Placed k 0
+  placed-low k l = (λ h. refl, λ h. absurd (omega arith), λ h. absurd (omega arith), λ h. absurd (omega arith))
+
+  placed : {c : Cause} → Wrong file c → Placed (numberOf c) (placeOf c)
+  placed (short l) = placed-low 1 (omega arith)
+  placed (version n) = placed-low 2 (omega arith)
+  placed (reserved n) = placed-low 2 (omega arith)
+  placed (spy n) = placed-low 3 (omega arith)
+  placed (authority h) = placed-low 3 (omega arith)
+  placed (rows l) = placed-low 4 (omega arith)
+  placed (events l) = placed-low 4 (omega arith)
+  placed (rows-offset n) = placed-low 4 (omega arith)
+  placed (events-offset n) = placed-low 4 (omega arith)
+  placed (size n) = placed-low 4 (omega arith)
+  placed (row l) = (λ h. absurd (omega arith), λ h. l, λ h. absurd (omega arith), λ h. absurd (omega arith))
+  placed (repeated l) = (λ h. absurd (omega arith), λ h. absurd (omega arith), λ h. l, λ h. absurd (omega arith))
+  placed (event l) = (λ h. absurd (omega arith), λ h. absurd (omega arith), λ h. absurd (omega arith), λ h. l)
+
+  same-place : (k p q : ℕ) → k < 8 → Placed k p → Placed k q → p ≡ q
+  same-place k p q l a b = go (ℕ-discrete k 5) (ℕ-discrete k 6) (ℕ-discrete k 7)
+    where
+      go : Dec (k ≡ 5) → Dec (k ≡ 6) → Dec (k ≡ 7) → p ≡ q
+      go (yes h) m n = lowest-one _ _ p q (a .1 h) (b .1 h)
+      go (no h) (yes m) n = lowest-one _ _ p q (a .2 m) (b .2 m)
+      go (no h) (no m) (yes n) = lowest-one _ _ p q (a .3 n) (b .3 n)
+      go (no h) (no m) (no n) = let low : k < 5 = omega arith in a .0 low ∙ sym (b .0 low)
+
+  same-cause : {c d : Cause} → Wrong file c → Wrong file d → ¬ (numberOf d < numberOf c) → ¬ (numberOf c < numberOf d) → c ≡ d
+  same-cause {c} {d} v w n m =
+      let h : numberOf c ≡ numberOf d = omega arith in
+      one-cause c d h (same-place (numberOf d) (placeOf c) (placeOf d) (wrong-number w) (rw h at (placed v)) (placed w))
+
+  told-one : (r s : Reading) → Told file r → Told file s → r ≡ s
+  told-one r s (refused v n) (refused w m) = ap Refused (same-cause v w (λ l. n _ l w) (λ l. m _ l v))
   told-one r s (refused v n) (readable m) = absurd (m _ v)
   told-one r s (readable n) (refused w m) = absurd (n _ w)
   told-one r s (readable n) (readable m) = refl
 
-  abbrev None : (ℕ → Bool) → ℕ → Type 0
-  None p n = (k : ℕ) → k < n → p k ≡ false
-
-  -- no cause below a number, where the tests before it failed
-  module _ (k : ℕ)
-      (long : 1 < k → rowsAt ≤ length file)
-      (v : 2 < k → wrongVersion (headerOf file) ≡ false)
-      (s : 3 < k → wrongSet file ≡ false)
-      (w : 4 < k → wrongContents (headerOf file) (length file) ≡ false)
-      (rows : 5 < k → None (badRow file) (rowsOf file))
-      (apart : 6 < k → None (repeatedRow file) (rowsOf file))
-      (events : 7 < k → None (badEvent file (rowsOf file)) (eventsOf file)) where
-    clash : {b : Bool} → b ≡ true → b ≡ false → ⊥
-    clash t f = true≢false (sym t ∙ f)
-
-    none-below : (d : Cause) → numberOf d < k → ¬ Wrong file d
-    none-below d l (short h) = let m = long l in omega arith
-    none-below d l (version e) = clash e (v l)
-    none-below d l (set e) = clash e (s l)
-    none-below d l (contents e) = clash e (w l)
-    none-below d l (row h) = clash (h .holds) (rows l _ (h .below))
-    none-below d l (repeated h) = clash (h .holds) (apart l _ (h .below))
-    none-below d l (event h) = clash (h .holds) (events l _ (h .below))
-
-  pub number-below : {c : Cause} → Wrong file c → numberOf c < 8
-  number-below (short h) = omega arith
-  number-below (version e) = omega arith
-  number-below (set e) = omega arith
-  number-below (contents e) = omega arith
-  number-below (row h) = omega arith
-  number-below (repeated h) = omega arith
-  number-below (event h) = omega arith
-
-  -- the table, tried from the top
-  abbrev Found : (ℕ → Bool) → ℕ → Type 0
-  Found p n = ((k : ℕ) × (k < n) × (p k ≡ true) × ((j : ℕ) → j < k → p j ≡ false)) ⊎ None p n
-
-  lowest : (p : ℕ → Bool) (n k : ℕ) → k < n → p k ≡ true → ((j : ℕ) → j < k → p j ≡ false) → Lowest p n k
-  lowest p n k l t h = record { below = l; holds = t; lowest = λ j lj e. true≢false (sym e ∙ h j lj) }
-
-  module _ (long : rowsAt ≤ length file) (v : wrongVersion (headerOf file) ≡ false) (s : wrongSet file ≡ false)
-      (w : wrongContents (headerOf file) (length file) ≡ false) where
-    items : reading file ≡ readItems file (rowsOf file) (eventsOf file)
-    items = reading-items file long v s w
-
-    module _ (rows : None (badRow file) (rowsOf file)) where
-      bad : rowsOf file ≡ first (badRow file) (rowsOf file)
-      bad = sym (first-none (badRow file) (rowsOf file) rows)
-
-      module _ (apart : None (repeatedRow file) (rowsOf file)) where
-        again : rowsOf file ≡ first (repeatedRow file) (rowsOf file)
-        again = sym (first-none (repeatedRow file) (rowsOf file) apart)
-
-        told-event : Found (badEvent file (rowsOf file)) (eventsOf file) → Told file (reading file)
-        told-event (inl (e, l, t, h)) =
-            rw
-            (items ∙
-            items-event file (rowsOf file) (eventsOf file) _ bad _ (omega arith) again e (omega arith) (sym (first-found (badEvent file (rowsOf file)) _ e l h t)) l)
-            (refused (event (lowest _ _ e l t h))
-            (none-below 7 (λ _. long) (λ _. v) (λ _. s) (λ _. w) (λ _. rows) (λ _. apart) (λ l. absurd (omega arith))))
-        told-event (inr none) =
-            rw
-            (items ∙
-            items-readable file (rowsOf file) (eventsOf file) _ bad _ (omega arith) again _ (omega arith) (sym (first-none (badEvent file (rowsOf file)) _ none)) (omega arith))
-            (readable
-            (λ c wrong. none-below 8 (λ _. long) (λ _. v) (λ _. s) (λ _. w) (λ _. rows) (λ _. apart) (λ _. none) c (number-below wrong) wrong))
-
-      told-repeat : Found (repeatedRow file) (rowsOf file) → Told file (reading file)
-      told-repeat (inl (r, l, t, h)) =
-          rw
-          (items ∙
-          items-repeat file (rowsOf file) (eventsOf file) _ bad r (omega arith) (sym (first-found (repeatedRow file) _ r l h t)) l)
-          (refused (repeated (lowest _ _ r l t h))
-          (none-below 6 (λ _. long) (λ _. v) (λ _. s) (λ _. w) (λ _. rows) (λ l. absurd (omega arith)) (λ l. absurd (omega arith))))
-      told-repeat (inr none) = told-event none (find (badEvent file (rowsOf file)) (eventsOf file))
-
-    told-row : Found (badRow file) (rowsOf file) → Told file (reading file)
-    told-row (inl (r, l, t, h)) =
-        rw (items ∙ items-row file (rowsOf file) (eventsOf file) r (sym (first-found (badRow file) _ r l h t)) l)
-        (refused (row (lowest _ _ r l t h))
-        (none-below 5 (λ _. long) (λ _. v) (λ _. s) (λ _. w) (λ l. absurd (omega arith)) (λ l. absurd (omega arith)) (λ l. absurd (omega arith))))
-    told-row (inr none) = told-repeat none (find (repeatedRow file) (rowsOf file))
-
-  abbrev Either : Bool → Type 0
-  Either b = (b ≡ true) ⊎ (b ≡ false)
-
-  module _ (long : rowsAt ≤ length file) where
-    told-contents : wrongVersion (headerOf file) ≡ false → wrongSet file ≡ false →
-        Either (wrongContents (headerOf file) (length file)) → Told file (reading file)
-    told-contents v s (inl w) =
-        rw (reading-contents file long v s w)
-        (refused (contents w)
-        (none-below 4 (λ _. long) (λ _. v) (λ _. s) (λ l. absurd (omega arith)) (λ l. absurd (omega arith)) (λ l. absurd (omega arith)) (λ l. absurd (omega arith))))
-    told-contents v s (inr w) = told-row long v s w (find (badRow file) (rowsOf file))
-
-    told-set : wrongVersion (headerOf file) ≡ false → Either (wrongSet file) → Told file (reading file)
-    told-set v (inl s) =
-        rw (reading-set file long v s)
-        (refused (set s)
-        (none-below 3 (λ _. long) (λ _. v) (λ l. absurd (omega arith)) (λ l. absurd (omega arith)) (λ l. absurd (omega arith)) (λ l. absurd (omega arith)) (λ l. absurd (omega arith))))
-    told-set v (inr s) = told-contents v s (bool-cases (wrongContents (headerOf file) (length file)))
-
-    told-version : Either (wrongVersion (headerOf file)) → Told file (reading file)
-    told-version (inl v) =
-        rw (reading-version file long v)
-        (refused (version v)
-        (none-below 2 (λ _. long) (λ l. absurd (omega arith)) (λ l. absurd (omega arith)) (λ l. absurd (omega arith)) (λ l. absurd (omega arith)) (λ l. absurd (omega arith)) (λ l. absurd (omega arith))))
-    told-version (inr v) = told-set v (bool-cases (wrongSet file))
-
-  told-short : Dec (length file < rowsAt) → Told file (reading file)
-  told-short (yes l) =
-      rw (reading-short file l)
-      (refused (short l)
-      (none-below 1 (λ l. absurd (omega arith)) (λ l. absurd (omega arith)) (λ l. absurd (omega arith)) (λ l. absurd (omega arith)) (λ l. absurd (omega arith)) (λ l. absurd (omega arith)) (λ l. absurd (omega arith))))
-  told-short (no n) = told-version (omega arith) (bool-cases (wrongVersion (headerOf file)))
-
 pub refusals : Refusals
 refusals = record { told = λ file. told-short file (decLt (length file) rowsAt); one = told-one }
+
+pub told-read : (file : List ℕ) {r : Reading} → reading file ≡ r → Told file r
+told-read file e = rw e at (refusals .told file)
+
+-- what a file has whose contents part is right
+module _ (file : List ℕ) (right : ¬ Wrong file WrongContents) where
+  pub few-rows : rowsOf file ≤ rowLimit
+  few-rows = let n : ¬ (rowLimit < rowsOf file) = λ l. right (rows l) in omega arith
+
+  pub few-events : eventsOf file ≤ eventLimit
+  few-events = let n : ¬ (eventLimit < eventsOf file) = λ l. right (events l) in omega arith
+
+  pub whole-length : length file ≡ eventsAt file + 8 * eventsOf file
+  whole-length = go (ℕ-discrete _ _)
+    where
+      go : Dec (length file ≡ eventsAt file + 8 * eventsOf file) → length file ≡ eventsAt file + 8 * eventsOf file
+      go (yes h) = h
+      go (no n) = absurd (right (size n))
+
+-- the place of a refusal is that of a row or an event
+pub told-place : (file : List ℕ) (c : Cause) → Told file (Refused c) → placeOf c ≤ rowLimit
+told-place file c (refused w none) = go (placed file w) (wrong-number file w)
+  where
+    right : 5 ≤ numberOf c → ¬ Wrong file WrongContents
+    right l = none WrongContents (omega arith)
+
+    go : Placed file (numberOf c) (placeOf c) → numberOf c < 8 → placeOf c ≤ rowLimit
+    go h l = by (ℕ-discrete (numberOf c) 5) (ℕ-discrete (numberOf c) 6) (ℕ-discrete (numberOf c) 7)
+      where
+        by : Dec (numberOf c ≡ 5) → Dec (numberOf c ≡ 6) → Dec (numberOf c ≡ 7) → placeOf c ≤ rowLimit
+        by (yes k) m n = omega (arith, h .1 k .below, few-rows file (right (omega arith)))
+        by (no k) (yes m) n = omega (arith, h .2 m .below, few-rows file (right (omega arith)))
+        by (no k) (no m) (yes n) = omega (arith, h .3 n .below, few-events file (right (omega arith)))
+        by (no k) (no m) (no n) = omega (arith, h .0 (omega arith))

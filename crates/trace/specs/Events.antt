@@ -1,16 +1,12 @@
--- Events: document 01, "The trace file", and refusal 7.
-use Prim.Native.Nat.{ℕ, _+_, _*_}
-use mathlib.Core.Bool.{Bool, _&&_, _||_}
+-- Events: document 01, "The trace file".
+use Prim.Native.Nat.{ℕ, _+_, _*_, _<_}
 use mathlib.Core.List.{List}
-use lib.Dec.{eqb, ltb, leb}
-use Rattle.trace.specs.File.{byte, word, rowsAt, rowsOf, agentLimit}
+use lib.Dec.{eqb}
+use Rattle.trace.specs.File.{byte, word, rowsOf, eventsAt, agentLimit}
 use Rattle.trace.specs.Rows.{choose}
 use Rattle.trace.specs.declared.events.Parts.{Parts}
 use Rattle.trace.specs.declared.Event.{Event}
 use Rattle.trace.specs.declared.Event.the-variants.{Says, Notes}
-
-abbrev pub eventsAt : List ℕ → ℕ
-eventsAt file = rowsAt + 8 * rowsOf file
 
 abbrev pub partsAt : List ℕ → ℕ → Parts
 partsAt file e =
@@ -23,16 +19,17 @@ partsAt file e =
       rest = word file (eventsAt file + 8 * e + 6);
     }
 
-abbrev pub eventFits : Parts → ℕ → Bool
-eventFits p rows =
-    leb (p .kind) 1 &&
-    ltb (p .sender) agentLimit &&
-    ltb (p .receiver) agentLimit &&
-    (eqb (p .kind) 0 || eqb (p .receiver) 0) &&
-    eqb (p .zero) 0 &&
-    ltb (p .row) rows &&
-    eqb (p .rest) 0
+-- the line of each kind, by byte 0, byte 1, byte 2, byte 3, bytes 4-5 and bytes 6-7; the receiver is zero in a note
+pub data EventLine (file : List ℕ) : (kind sender receiver zero row rest : ℕ) → Type 0 where
+  says : {A B row : ℕ} → A < agentLimit → B < agentLimit → row < rowsOf file → EventLine file 0 A B 0 row 0
+  notes : {A row : ℕ} → A < agentLimit → row < rowsOf file → EventLine file 1 A 0 0 row 0
 
+abbrev pub KeepsEventLine : List ℕ → ℕ → Type 0
+KeepsEventLine file e =
+    let p = partsAt file e in
+    EventLine file (p .kind) (p .sender) (p .receiver) (p .zero) (p .row) (p .rest)
+
+-- what an event is
 abbrev pub eventOf : Parts → Event
 eventOf p =
     choose (eqb (p .kind) 0)

@@ -1,9 +1,12 @@
 pub mod File
 pub mod Rows
 pub mod Events
-pub mod First
-pub mod Refusal
-pub mod Fault
 pub mod Meaning
+pub mod Refusal
+pub mod Part
+pub mod First
+pub mod Tests
+pub mod Reading
+pub mod Spans
 pub mod Promises
 pub mod Chain

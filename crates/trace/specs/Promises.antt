@@ -1,13 +1,17 @@
--- What a file that is not refused promises: references lie below and are of the right kind, each row's message unfolds by its kind,
--- and equal messages have equal row numbers. Document 01, "The trace file".
+-- What `trace` promises: the table has one answer, which is computed, and a file that is not refused has rows whose references lie below
+-- and are of the right kind, whose messages unfold by their kinds, and of which equal messages have equal numbers. Document 01, "The trace file".
 use Prim.Native.Nat.{ℕ, _<_, _≤_}
+use mathlib.Core.Bool.{true}
 use mathlib.Core.List.{List}
+use mathlib.Core.Logic.{_↔_}
 use mathlib.Core.Path.{_≡_}
 use Rattle.paper.specs.Message as paper
 use Rattle.trace.specs.File.{rowLimit, eventLimit, agentLimit, rowsOf, eventsOf}
-use Rattle.trace.specs.Rows.{rowAt}
-use Rattle.trace.specs.Events.{eventAt}
-use Rattle.trace.specs.Refusal.{reading}
+use Rattle.trace.specs.Rows.{fieldsAt, rowAt, KeepsLine, SameBytes}
+use Rattle.trace.specs.Events.{eventAt, KeepsEventLine, partsAt}
+use Rattle.trace.specs.Tests.{rowFits, eventFits, sameFields}
+use Rattle.trace.specs.Refusal.{Told}
+use Rattle.trace.specs.Reading.{reading}
 use Rattle.trace.specs.Meaning.{roleMeant, message, bad}
 use Rattle.trace.specs.declared.AgentNo.{AgentNo}
 use Rattle.trace.specs.declared.RowNo.{RowNo}
@@ -18,7 +22,20 @@ use Rattle.trace.specs.declared.Row.{Row}
 use Rattle.trace.specs.declared.Row.the-variants.{Agent, Number, Nonce, Prf, PublicKey, PrivateKey, SessionKey, Hash, Crypt, Pair}
 use Rattle.trace.specs.declared.Event.{Event}
 use Rattle.trace.specs.declared.Event.the-variants.{Says, Notes}
+use Rattle.trace.specs.declared.Reading.{Reading}
 use Rattle.trace.specs.declared.Reading.the-variants.{Readable}
+
+-- one answer, and only one
+pub record Refusals : Type 0 where
+  pub told : (file : List ℕ) → Told file (reading file)
+  pub one : (file : List ℕ) (r s : Reading) → Told file r → Told file s → r ≡ s
+
+-- the tests are exact, and rows are equal in their eight bytes exactly when their five numbers are
+pub record Tested : Type 0 where
+  pub line : (file : List ℕ) (r : ℕ) → (rowFits file r ≡ true) ↔ KeepsLine file r
+  pub event : (file : List ℕ) (e : ℕ) → (eventFits (partsAt file e) (rowsOf file) ≡ true) ↔ KeepsEventLine file e
+  pub bytes : (file : List ℕ) (r s : ℕ) → (fieldsAt file r ≡ fieldsAt file s) ↔ SameBytes file r s
+  pub same : (file : List ℕ) (r s : ℕ) → (sameFields (fieldsAt file r) (fieldsAt file s) ≡ true) ↔ SameBytes file r s
 
 pub data NonceRow : Row → Type 0 where
   plain : {n : NonceValue} → NonceRow (Nonce n)
@@ -86,7 +103,7 @@ pub record Promised (file : List ℕ) : Type 0 where
   pub apart : (r s : ℕ) → r < rowsOf file → s < rowsOf file → message file r ≡ message file s → r ≡ s
 
 abbrev pub Promises : Type 0
-Promises = (file : List ℕ) → reading file ≡ Readable → Promised file
+Promises = (file : List ℕ) → Told file Readable → Promised file
 
 -- a Number and a Nonce of one value never match
 abbrev pub KeptApart : Type 0

@@ -1,8 +1,9 @@
--- Rows: the table of kinds in document 01, "The trace file", and refusal 5.
-use Prim.Native.Nat.{ℕ, _+_, _*_}
-use mathlib.Core.Bool.{Bool, true, false, _&&_}
+-- Rows: the table of kinds in document 01, "The trace file".
+use Prim.Native.Nat.{ℕ, _+_, _*_, _<_, _≤_}
+use mathlib.Core.Bool.{Bool, true, false}
 use mathlib.Core.List.{List}
-use lib.Dec.{eqb, ltb, leb}
+use mathlib.Core.Path.{_≡_}
+use lib.Dec.{eqb}
 use Rattle.trace.specs.File.{byte, word, rowsAt, agentLimit}
 use Rattle.trace.specs.declared.rows.Fields.{Fields}
 use Rattle.trace.specs.declared.Role.{Role}
@@ -27,56 +28,38 @@ fieldsAt file r =
 abbrev pub kindAt : List ℕ → ℕ → ℕ
 kindAt file r = fieldsAt file r .kind
 
--- a reference: below the row, and of the right kind
-abbrev pub nonceBelow : List ℕ → ℕ → ℕ → Bool
-nonceBelow file r x = ltb x r && leb 2 (kindAt file x) && leb (kindAt file x) 3
+-- row r refers to x: below it, and of a kind from one number to another
+pub record Refers (file : List ℕ) (r lowest highest x : ℕ) : Type 0 where
+  pub below : x < r
+  pub from : lowest ≤ kindAt file x
+  pub to : kindAt file x ≤ highest
 
-abbrev pub keyBelow : List ℕ → ℕ → ℕ → Bool
-keyBelow file r x = ltb x r && leb 4 (kindAt file x) && leb (kindAt file x) 6
+-- the line of each kind, by kind, role, first, second and third field; fields not named, role too, are zero
+pub data Line (file : List ℕ) (r : ℕ) : (kind role first second third : ℕ) → Type 0 where
+  agent : {a : ℕ} → a < agentLimit → Line file r 0 0 a 0 0
+  number : {v : ℕ} → Line file r 1 0 v 0 0
+  nonce : {v : ℕ} → Line file r 2 0 v 0 0
+  prf : {S Na Nb : ℕ} → Refers file r 2 3 S → Refers file r 2 3 Na → Refers file r 2 3 Nb → Line file r 3 0 S Na Nb
+  public : {a : ℕ} → a < agentLimit → Line file r 4 0 a 0 0
+  private : {a : ℕ} → a < agentLimit → Line file r 5 0 a 0 0
+  session : {role Na Nb M : ℕ} → role ≤ 1 → Refers file r 2 3 Na → Refers file r 2 3 Nb → Refers file r 2 3 M → Line file r 6 role Na Nb M
+  hash : {X : ℕ} → X < r → Line file r 7 0 X 0 0
+  crypt : {K X : ℕ} → Refers file r 4 6 K → X < r → Line file r 8 0 K X 0
+  pair : {X Y : ℕ} → X < r → Y < r → Line file r 9 0 X Y 0
 
-abbrev pub threeNonces : List ℕ → ℕ → Fields → Bool
-threeNonces file r f = nonceBelow file r (f .first) && nonceBelow file r (f .second) && nonceBelow file r (f .third)
+abbrev pub KeepsLine : List ℕ → ℕ → Type 0
+KeepsLine file r =
+    let f = fieldsAt file r in
+    Line file r (f .kind) (f .role) (f .first) (f .second) (f .third)
 
--- the line of each kind: fields not named, role too, are zero
-abbrev pub agentLine : Fields → Bool
-agentLine f = eqb (f .role) 0 && ltb (f .first) agentLimit && eqb (f .second) 0 && eqb (f .third) 0
+-- equal rows are equal in all eight bytes
+abbrev pub SameBytes : List ℕ → (r s : ℕ) → Type 0
+SameBytes file r s = (i : ℕ) → i < 8 → byte file (rowsAt + 8 * r + i) ≡ byte file (rowsAt + 8 * s + i)
 
-abbrev pub valueLine : Fields → Bool
-valueLine f = eqb (f .role) 0 && eqb (f .second) 0 && eqb (f .third) 0
-
-abbrev pub nonceLine : List ℕ → ℕ → Fields → Bool
-nonceLine file r f = choose (eqb (f .kind) 2) (valueLine f) (eqb (f .role) 0 && threeNonces file r f)
-
-abbrev pub keyLine : List ℕ → ℕ → Fields → Bool
-keyLine file r f = choose (ltb (f .kind) 6) (agentLine f) (leb (f .role) 1 && threeNonces file r f)
-
-abbrev pub hashLine : ℕ → Fields → Bool
-hashLine r f = eqb (f .role) 0 && ltb (f .first) r && eqb (f .second) 0 && eqb (f .third) 0
-
-abbrev pub cryptLine : List ℕ → ℕ → Fields → Bool
-cryptLine file r f = eqb (f .role) 0 && keyBelow file r (f .first) && ltb (f .second) r && eqb (f .third) 0
-
-abbrev pub pairLine : ℕ → Fields → Bool
-pairLine r f = eqb (f .role) 0 && ltb (f .first) r && ltb (f .second) r && eqb (f .third) 0
-
-unfoldable pub lineOf : List ℕ → ℕ → Fields → Bool
-lineOf file r f =
-    choose (eqb (f .kind) 0) (agentLine f)
-    (choose (eqb (f .kind) 1) (valueLine f)
-    (choose (leb (f .kind) 3) (nonceLine file r f)
-    (choose (leb (f .kind) 6) (keyLine file r f)
-    (choose (eqb (f .kind) 7) (hashLine r f)
-    (choose (eqb (f .kind) 8) (cryptLine file r f)
-    (choose (eqb (f .kind) 9) (pairLine r f)
-    false))))))
-
-abbrev pub rowFits : List ℕ → ℕ → Bool
-rowFits file r = lineOf file r (fieldsAt file r)
-
+-- what a row is; a kind above 9 reads as a Pair, and its row is refused
 abbrev pub roleOf : ℕ → Role
 roleOf n = choose (eqb n 0) Client Server
 
--- what a row is; a kind above 9 reads as a Pair, and its row is refused
 unfoldable pub rowOf : Fields → Row
 rowOf f =
     choose (eqb (f .kind) 0) (Agent (record { 0 = f .first }))

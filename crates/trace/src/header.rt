@@ -3,7 +3,8 @@ use super::bytes;
 use super::limits::AGENTS;
 use super::limits::ROWS_AT;
 ghost use mathlib.Core.Path.{_≡_};
-ghost use Rattle.trace.specs.File.{headerOf, rowsOf, compromisedIn};
+ghost use Rattle.trace.specs.File.{rowsOf, compromisedIn};
+ghost use Rattle.trace.specs.Tests.{headerOf};
 
 const SET_AT: usize = 4;
 

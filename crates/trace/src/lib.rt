@@ -11,8 +11,9 @@ ghost use mathlib.Core.Path.{_≡_};
 ghost use Rattle.trace.specs.File.{rowsOf, eventsOf, compromisedIn};
 ghost use Rattle.trace.specs.Rows.{rowAt};
 ghost use Rattle.trace.specs.Events.{eventAt};
-ghost use Rattle.trace.specs.Fault.{Part, nothing, eventSpan, faultOf, within};
 ghost use Rattle.trace.specs.Refusal.{numberOf, placeOf};
+ghost use Rattle.trace.specs.Part.{Part, nothing};
+ghost use Rattle.trace.specs.Spans.{eventSpan, faultOf, within};
 
 // Numbers of rows, events and agents are kept apart, and so are the values of Numbers and Nonces.
 pub struct RowNo(pub u16);

@@ -6,7 +6,8 @@ use super::limits::ROWS_AT;
 ghost use Prim.Native.Nat.{_+_, _<_};
 ghost use mathlib.Core.Path.{_≡_};
 ghost use lib.Dec.{leb};
-ghost use Rattle.trace.specs.Fault.{nothing, eightAt, rowSpan, eventSpan};
+ghost use Rattle.trace.specs.Part.{nothing};
+ghost use Rattle.trace.specs.Spans.{eightAt, rowSpan, eventSpan};
 
 pub fn no_span() -> Span
     ensures { λ s. ⌜ s ≡ nothing ⌝ }

@@ -3,7 +3,7 @@
 use native.Mathlib.Omega.{arith}
 use mathlib.Core.Path.{_∙_, sym, ap}
 use denote.Ref.{now}
-use Rattle.trace.specs.Rows.{lineOf}
+use Rattle.trace.specs.Tests.{lineOf}
 use Rattle.trace.proofs.Lines.{line-agent, line-number, line-nonce, line-key, line-hash, line-crypt, line-pair, line-none}
 use borrow.Author.Needs.{needs}
 use Rattle.lines.proofs.row_fits.Statement.{statement}

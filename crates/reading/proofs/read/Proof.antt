@@ -7,9 +7,10 @@ use mathlib.Core.Path.{_≡_, refl, sym, _∙_}
 use denote.Ref.{now}
 use lib.ListN.{length}
 use borrow.Author.Tests.{lt-ltb, le-ltb, ne-eqb, not-true, not-false}
-use Rattle.trace.specs.File.{rowsAt, headerOf, rowsOf, eventsOf, compromisedIn, wrongVersion, wrongSet, wrongContents}
+use Rattle.trace.specs.File.{rowsAt, rowsOf, eventsOf, compromisedIn}
 use Rattle.trace.specs.Rows.{choose}
-use Rattle.trace.specs.Refusal.{readItems, reading}
+use Rattle.trace.specs.Tests.{headerOf, wrongVersion, wrongSet, wrongContents}
+use Rattle.trace.specs.Reading.{readItems, reading}
 use Rattle.trace.specs.declared.Cause.the-variants.{WrongContents}
 use Rattle.trace.specs.declared.Reading.the-variants.{Refused}
 use Rattle.trace.specs.declared.header.Header.{Header}

@@ -4,8 +4,8 @@ use mathlib.Core.Bool.{Bool}
 use mathlib.Core.Path.{_≡_, refl, sym, _∙_, ap}
 use denote.Ref.{now}
 use lib.ListN.{length}
-use Rattle.trace.specs.File.{headerOf, wrongContents}
-use Rattle.trace.specs.Refusal.{readItems}
+use Rattle.trace.specs.Tests.{headerOf, wrongContents}
+use Rattle.trace.specs.Reading.{readItems}
 use Rattle.trace.specs.declared.header.Header.{Header}
 use borrow.Author.Needs.{needs}
 use Rattle.reading.proofs.read_contents.Statement.{statement}

@@ -8,8 +8,7 @@ use denote.Ref.{now}
 use borrow.Author.Count.{below-none, below-more}
 use borrow.Author.Needs.{needs}
 use Rattle.trace.specs.declared.events.Parts.{Parts}
-use Rattle.trace.specs.Events.{eventFits}
-use Rattle.trace.specs.Refusal.{badEvent}
+use Rattle.trace.specs.Tests.{eventFits, badEvent}
 use Rattle.trace.proofs.First.{first-found, first-none}
 use Rattle.reading.proofs.search.first_bad_event.Statement.{statement}
 use Rattle.reading.proofs.search.first_bad_event.Tie as tie

@@ -7,7 +7,7 @@ use native.Mathlib.Omega.{arith}
 use denote.Ref.{now}
 use borrow.Author.Count.{below-none, below-more}
 use borrow.Author.Needs.{needs}
-use Rattle.trace.specs.Refusal.{badRow}
+use Rattle.trace.specs.Tests.{badRow}
 use Rattle.trace.proofs.First.{first-found, first-none}
 use Rattle.reading.proofs.search.first_bad_row.Statement.{statement}
 use Rattle.reading.proofs.search.first_bad_row.Tie as tie

@@ -10,7 +10,7 @@ use lib.ListN.{getD, length, length-set, replicate, length-replicate}
 use borrow.Author.Count.{below-none, below-more}
 use borrow.Author.Needs.{needs}
 use Rattle.trace.specs.Rows.{fieldsAt}
-use Rattle.trace.specs.Refusal.{repeatedRow}
+use Rattle.trace.specs.Tests.{repeatedRow}
 use Rattle.trace.specs.Chain.{bucketOf, tagOf, Tagged, Searched}
 use Rattle.trace.specs.declared.rows.Fields.{Fields}
 use Rattle.trace.proofs.First.{first-found, first-none}

@@ -6,7 +6,7 @@ use mathlib.Core.Path.{_≡_, sym, _∙_, ap}
 use denote.Ref.{now}
 use borrow.Author.Needs.{needs}
 use Rattle.trace.specs.Rows.{fieldsAt}
-use Rattle.trace.specs.Refusal.{sameFields}
+use Rattle.trace.specs.Tests.{sameFields}
 use Rattle.trace.specs.Chain.{tagOf}
 use Rattle.trace.specs.declared.rows.Fields.{Fields}
 use Rattle.trace.proofs.Chain.{tags-differ}

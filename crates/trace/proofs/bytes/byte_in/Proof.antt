@@ -1,6 +1,5 @@
 -- `trace::bytes::byte_in` meets its contract: an element of a slice of bytes is below 256.
 -- Assumes nothing.
-use mathlib.Core.Path.{refl}
 use native.Mathlib.Omega.{arith}
 use borrow.Author.Needs.{needs}
 use Rattle.trace.proofs.bytes.byte_in.Statement.{statement}
@@ -13,7 +12,7 @@ cast-result : tie.Need-cast-result
 cast-result c = omega (arith, c .shared-slice-known .given (c .before .args .at))
 
 returns : tie.Need-returns
-returns c = (refl, omega (arith, c .shared-slice-known .given (c .before .args .at)))
+returns c = omega (arith, c .shared-slice-known .given (c .before .args .at))
 
 pub byte-in-spec : {M : Type 1} → statement M
 byte-in-spec = tie.close (tie.spec shared-slice-read-result cast-result returns)

@@ -1,21 +1,18 @@
--- The part at fault: eight bytes of the lent file, or the empty part that starts at byte 0. Document 01, the third question.
+-- Where the part at fault lies, computed for every file: nothing where the file ends before the part does.
+-- No promise has to be believed because of this page: of a refusal that is told, the part is there (`FaultsInside`, `FaultsFit`).
 use Prim.Native.Nat.{ℕ, _+_, _*_, _≤_}
 use mathlib.Core.List.{List}
 use mathlib.Core.Path.{_≡_}
 use lib.Dec.{leb}
-use lib.ListN.{length, take, drop}
-use denote.Ref.{RefT, now, ptr}
-use Rattle.trace.specs.File.{rowsAt, rowLimit, eventLimit}
+use lib.ListN.{length}
+use Rattle.trace.specs.File.{rowsAt, rowLimit, eventLimit, eventsAt}
 use Rattle.trace.specs.Rows.{choose}
-use Rattle.trace.specs.Events.{eventsAt}
-use Rattle.trace.specs.Refusal.{numberOf, reading, Told}
+use Rattle.trace.specs.Part.{nothing}
+use Rattle.trace.specs.Refusal.{numberOf, Told}
 use Rattle.trace.specs.declared.Span.{Span}
 use Rattle.trace.specs.declared.Reading.the-variants.{Refused}
 use Rattle.trace.specs.declared.Cause.{Cause}
 use Rattle.trace.specs.declared.Cause.the-variants.{TooShort, WrongVersion, WrongSet, WrongContents, BadRow, RepeatedRow, BadEvent, ShortBuffer, TooManyEvents}
-
-abbrev pub nothing : Span
-nothing = record { start = 0; size = 0 }
 
 abbrev pub eightAt : List ℕ → ℕ → Span
 eightAt file at = choose (leb (at + 8) (length file)) (record { start = at; size = 8 }) nothing
@@ -41,11 +38,6 @@ faultOf file TooManyEvents = nothing
 abbrev pub within : List ℕ → Span → Span
 within file span = choose (leb (span .start + span .size) (length file)) span nothing
 
--- a part of a file: what it holds, and where it stands
-pub record Part (file : RefT (List ℕ)) (span : Span) (part : RefT (List ℕ)) : Type 0 where
-  pub holds : now part ≡ take (span .size) (drop (span .start) (now file))
-  pub stands : ptr part ≡ (ptr file .0, span .start + ptr file .1)
-
 -- a span that the file has, below the end of the longest file that is read
 abbrev pub longestFile : ℕ
 longestFile = rowsAt + 8 * rowLimit + 8 * eventLimit
@@ -60,4 +52,4 @@ FaultsInside = (file : List ℕ) (c : Cause) → Told file (Refused c) → Insid
 
 -- refusals 5 to 7 name eight bytes of the file
 abbrev pub FaultsFit : Type 0
-FaultsFit = (file : List ℕ) (c : Cause) → reading file ≡ Refused c → 5 ≤ numberOf c → faultOf file c .size ≡ 8
+FaultsFit = (file : List ℕ) (c : Cause) → Told file (Refused c) → 5 ≤ numberOf c → faultOf file c .size ≡ 8
