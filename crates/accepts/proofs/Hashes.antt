@@ -10,6 +10,7 @@ use native.Mathlib.Decide.{ℕ-discrete, decLt}
 use lib.Dec.{eqb, ltb}
 use lib.ListN.{length, length-replicate}
 use borrow.Author.Tests.{lt-ltb, le-ltb, eq-eqb, eqb-true}
+use Rattle.trace.specs.File.{rowLimit, agentLimit}
 use Rattle.trace.specs.First.{any}
 use Rattle.trace.specs.Rows.{choose}
 use Rattle.trace.proofs.Both.{both, refuted, or-true, or-none, and-true, and-false}
@@ -29,7 +30,7 @@ use Rattle.accepts.proofs.Branches.{or-assoc, hash-last}
 use Rattle.accepts.proofs.Accepts.{both8}
 
 -- one event's mark
-mark-if : (marks : List ℕ) → length marks ≡ 1024 → (t : Bool) (r x : ℕ) → x < 1024 →
+mark-if : (marks : List ℕ) → length marks ≡ rowLimit → (t : Bool) (r x : ℕ) → x < rowLimit →
     rowMarked (choose t (markRow marks r) marks) x ≡ (rowMarked marks x || (t && eqb r x))
 mark-if marks room false r x l = rw (or-none (rowMarked marks x)) refl
 mark-if marks room true r x l = go (ℕ-discrete x r)
@@ -42,7 +43,7 @@ mark-if marks room true r x l = go (ℕ-discrete x r)
         rw (refuted (eqb r x) (λ t. n (sym (eqb-true r x t))), or-none (rowMarked marks x))
         (mark-other marks room r x n)
 
-mark-length : (marks : List ℕ) → length marks ≡ 1024 → (t : Bool) (r : ℕ) → length (choose t (markRow marks r) marks) ≡ 1024
+mark-length : (marks : List ℕ) → length marks ≡ rowLimit → (t : Bool) (r : ℕ) → length (choose t (markRow marks r) marks) ≡ rowLimit
 mark-length marks room true r = mark-room marks room r
 mark-length marks room false r = room
 
@@ -52,31 +53,31 @@ any-same p q h zero = refl
 any-same p q h (suc n) = rw (any-same p q h n, h n) refl
 
 -- a seal that is not 0 has the hash of a Finished that is told
-seal-told : (said is : Bool) (hash x : ℕ) → x < 1024 →
-    ((said && ltb 0 (choose is (choose (ltb hash 1024) (hash + 1) 65535) 0)) && eqb (choose is (choose (ltb hash 1024) (hash + 1) 65535) 0 - 1) x) ≡
+seal-told : (said is : Bool) (hash x : ℕ) → x < rowLimit →
+    ((said && ltb 0 (choose is (choose (ltb hash rowLimit) (hash + 1) 65535) 0)) && eqb (choose is (choose (ltb hash rowLimit) (hash + 1) 65535) 0 - 1) x) ≡
     ((said && is) && eqb hash x)
 seal-told true false hash x l = refl
 seal-told false false hash x l = refl
-seal-told said true hash x l = go (decLt hash 1024)
+seal-told said true hash x l = go (decLt hash rowLimit)
   where
-    go : Dec (hash < 1024) →
-        ((said && ltb 0 (choose (ltb hash 1024) (hash + 1) 65535)) && eqb (choose (ltb hash 1024) (hash + 1) 65535 - 1) x) ≡
+    go : Dec (hash < rowLimit) →
+        ((said && ltb 0 (choose (ltb hash rowLimit) (hash + 1) 65535)) && eqb (choose (ltb hash rowLimit) (hash + 1) 65535 - 1) x) ≡
         ((said && true) && eqb hash x)
     go (yes m) =
         let one : hash + 1 - 1 ≡ hash = omega arith in
-        rw (lt-ltb hash 1024 m, lt-ltb 0 (hash + 1) (omega arith), one) refl
+        rw (lt-ltb hash rowLimit m, lt-ltb 0 (hash + 1) (omega arith), one) refl
     go (no m) =
         rw (
-          le-ltb hash 1024 (omega arith),
+          le-ltb hash rowLimit (omega arith),
           refuted (eqb (65535 - 1) x) (λ t. far x l (eqb-true (65535 - 1) x t)),
           refuted (eqb hash x) (λ t. past-marks x l (eqb-true hash x t)),
         )
         refl
       where
-        far : (x : ℕ) → x < 1024 → 65535 - 1 ≡ x → ⊥
+        far : (x : ℕ) → x < rowLimit → 65535 - 1 ≡ x → ⊥
         far x l q = omega arith
 
-        past-marks : (x : ℕ) → x < 1024 → hash ≡ x → ⊥
+        past-marks : (x : ℕ) → x < rowLimit → hash ≡ x → ⊥
         past-marks x l q = omega arith
 
 module _ (file : List ℕ) (server : Bool) (to : ℕ) where
@@ -98,7 +99,7 @@ module _ (file : List ℕ) (server : Bool) (to : ℕ) where
   mark-end boxes link marks z = ap (λ (js : List ℕ). markAll file boxes server to js marks) (chain-end boxes link z)
 
   module _ (boxes : List ℕ) (e : ℕ) (X : Boxed file boxes e) where
-    marked-more : (marks : List ℕ) → length marks ≡ 1024 → (j x : ℕ) → j < e → x < 1024 →
+    marked-more : (marks : List ℕ) → length marks ≡ rowLimit → (j x : ℕ) → j < e → x < rowLimit →
         rowMarked (markEvent file boxes server to j marks) x ≡ (rowMarked marks x || toldFinished file (heardAt file j) server to x)
     marked-more marks room j x m l =
         let h = heardAt file j in
@@ -109,7 +110,7 @@ module _ (file : List ℕ) (server : Bool) (to : ℕ) where
         seal-told (saidTo h to) (f .is && choose server (f .server) (not (f .server))) (f .hash) x l ∙
         sym (told-last j x))
 
-    all-marked : {js : List ℕ} → Below e js → (marks : List ℕ) → length marks ≡ 1024 → (x : ℕ) → x < 1024 →
+    all-marked : {js : List ℕ} → Below e js → (marks : List ℕ) → length marks ≡ rowLimit → (x : ℕ) → x < rowLimit →
         rowMarked (markAll file boxes server to js marks) x ≡ (rowMarked marks x || some (λ j. toldFinished file (heardAt file j) server to x) js)
     unfolding markAll some
     all-marked none marks room x l = sym (or-none (rowMarked marks x))
@@ -120,24 +121,24 @@ module _ (file : List ℕ) (server : Bool) (to : ℕ) where
         (or-assoc (rowMarked marks x) (toldFinished file (heardAt file j) server to x) (some (λ i. toldFinished file (heardAt file i) server to x) js))
 
     abbrev marks : List ℕ
-    marks = markAll file boxes server to (chainFrom boxes (latestTo boxes to)) (zeros 1024)
+    marks = markAll file boxes server to (chainFrom boxes (latestTo boxes to)) (zeros rowLimit)
 
-    told-marked : (x : ℕ) → x < 1024 → rowMarked marks x ≡ any (λ j. toldFinished file (heardAt file j) server to x) e
+    told-marked : (x : ℕ) → x < rowLimit → rowMarked marks x ≡ any (λ j. toldFinished file (heardAt file j) server to x) e
     told-marked x l =
-        let m : to % 64 < 64 = mod-lt to (omega arith) in
-        let low : latestTo boxes to ≤ e = X .links .low (to % 64) (omega (arith, m)) in
-        all-marked (chain-below boxes e (latestTo boxes to) low) (zeros 1024) (length-replicate {A = ℕ} 1024 0) x l ∙
-        rw (refuted (rowMarked (zeros 1024) x) (none-marked 1024 x))
-        (chain-any file boxes e (X .links) (λ h. toldFinished file h server to x) (to % 64) (omega (arith, m))
+        let m : to % agentLimit < agentLimit = mod-lt to (omega arith) in
+        let low : latestTo boxes to ≤ e = X .links .low (to % agentLimit) (omega (arith, m)) in
+        all-marked (chain-below boxes e (latestTo boxes to) low) (zeros rowLimit) (length-replicate {A = ℕ} rowLimit 0) x l ∙
+        rw (refuted (rowMarked (zeros rowLimit) x) (none-marked rowLimit x))
+        (chain-any file boxes e (X .links) (λ h. toldFinished file h server to x) (to % agentLimit) (omega (arith, m))
         (λ h t. said-box h to (both (saidTo h to) _ t .0)))
 
     pub answered-told : (hash : ℕ) →
         answeredIn file marks e server to hash ≡ any (λ j. toldFinished file (heardAt file j) server to hash) e
-    answered-told hash = go (decLt hash 1024)
+    answered-told hash = go (decLt hash rowLimit)
       where
-        go : Dec (hash < 1024) → answeredIn file marks e server to hash ≡ any (λ j. toldFinished file (heardAt file j) server to hash) e
-        go (yes l) = rw (lt-ltb hash 1024 l) (rw (lt-ltb hash 1024 l) at (told-marked hash l))
-        go (no l) = rw (le-ltb hash 1024 (omega arith)) refl
+        go : Dec (hash < rowLimit) → answeredIn file marks e server to hash ≡ any (λ j. toldFinished file (heardAt file j) server to hash) e
+        go (yes l) = rw (lt-ltb hash rowLimit l) (rw (lt-ltb hash rowLimit l) at (told-marked hash l))
+        go (no l) = rw (le-ltb hash rowLimit (omega arith)) refl
 
 -- a Finished has a seal
 seal-some : (is small : Bool) (hash : ℕ) → is ≡ true → ltb 0 (choose is (choose small (hash + 1) 65535) 0) ≡ true
@@ -174,15 +175,15 @@ module _ (file boxes : List ℕ) (e : ℕ) (X : Boxed file boxes e) where
             let f = sealedOf file (h .row) in
             let p = both (saidBy h from to) _ t in
             let q = both8 (f .is) (eqb (f .sid) sid) (eqb (f .a) a) (eqb (f .b) b) (eqb (f .m) m) (eqb (f .na) na) (eqb (f .nb) nb) (choose server (f .server) (not (f .server))) (p .1) in
-            seal-some (f .is && choose server (f .server) (not (f .server))) (ltb (f .hash) 1024) (f .hash) (rw (q .0, q .7) refl)
+            seal-some (f .is && choose server (f .server) (not (f .server))) (ltb (f .hash) rowLimit) (f .hash) (rw (q .0, q .7) refl)
 
     both-at : bothIn file boxes e server from to sid a b m na nb ≡ bothFinished file e server from to sid a b m na nb
     unfolding bothIn bothFinished
     both-at =
-        let l : to % 64 < 64 = mod-lt to (omega arith) in
-        let low : latestTo boxes to ≤ e = X .links .low (to % 64) (omega (arith, l)) in
+        let l : to % agentLimit < agentLimit = mod-lt to (omega arith) in
+        let low : latestTo boxes to ≤ e = X .links .low (to % agentLimit) (omega (arith, l)) in
         some-same boxes _ agreed-same (chain-below boxes e (latestTo boxes to) low) ∙
-        chain-any file boxes e (X .links) agreedBy (to % 64) (omega (arith, l))
+        chain-any file boxes e (X .links) agreedBy (to % agentLimit) (omega (arith, l))
         (λ h t. by-box h from to (both (saidBy h from to) _ (both _ _ t .0) .0)) ∙
         any-same _ _
         (λ (i : ℕ). rw (answered-told file (not server) from boxes e X (sealedOf file (heardAt file i .row) .hash)) refl) e

@@ -3,6 +3,7 @@ use Prim.Native.Nat.{ℕ, _-_}
 use mathlib.Core.Bool.{Bool, _&&_, not}
 use mathlib.Core.List.{List, [], _∷_}
 use lib.Dec.{ltb}
+use Rattle.trace.specs.File.{rowLimit}
 use Rattle.trace.specs.First.{any}
 use Rattle.trace.specs.Rows.{choose}
 use Rattle.forms.specs.Kinds.{cryptOf}
@@ -31,7 +32,7 @@ markAll file boxes server to (j ∷ js) marks = markAll file boxes server to js 
 -- a hash past the marks is searched for
 abbrev pub answeredIn : (file marks : List ℕ) → ℕ → Bool → (to hash : ℕ) → Bool
 answeredIn file marks e server to hash =
-    choose (ltb hash 1024) (rowMarked marks hash) (any (λ j. toldFinished file (heardAt file j) server to hash) e)
+    choose (ltb hash rowLimit) (rowMarked marks hash) (any (λ j. toldFinished file (heardAt file j) server to hash) e)
 
 -- one side's Finished, whose hash the other side told
 abbrev pub agreedIn : (file boxes marks : List ℕ) → ℕ → Bool → (from to sid a b m na nb i : ℕ) → Bool
@@ -43,5 +44,5 @@ agreedIn file boxes marks e server from to sid a b m na nb i =
 -- the two passes over the boxes
 unfoldable pub bothIn : (file boxes : List ℕ) → ℕ → Bool → (from to sid a b m na nb : ℕ) → Bool
 bothIn file boxes e server from to sid a b m na nb =
-    let marks = markAll file boxes (not server) from (chainFrom boxes (latestTo boxes from)) (zeros 1024) in
+    let marks = markAll file boxes (not server) from (chainFrom boxes (latestTo boxes from)) (zeros rowLimit) in
     some (agreedIn file boxes marks e server from to sid a b m na nb) (chainFrom boxes (latestTo boxes to))

@@ -1,8 +1,11 @@
 // A session that is accepted, over rows: rules 10 and 11.
 use earlier::Heard;
 use earlier::Wanted;
+use earlier::boxes::BOX_ROOM;
 use forms::Remembered;
 use forms::leaves::Three;
+use trace::limits::ROW_LIMIT;
+use trace::limits::ROWS;
 ghost use mathlib.Core.Path.{_≡_};
 ghost use mathlib.Core.Bool.{not, _&&_};
 ghost use lib.Dec.{eqb};
@@ -12,8 +15,6 @@ ghost use Rattle.earlier.specs.Earlier.{heardAt};
 ghost use Rattle.earlier.specs.Boxes.{latestTo, chainFrom, some, found};
 ghost use Rattle.accepts.specs.Tests.{saidFinished, toldFinished, clientAccepts, serverAccepts};
 ghost use Rattle.accepts.specs.Hashes.{toldHere, markEvent, markAll, answeredIn, agreedIn, bothIn};
-
-const ROWS: u16 = 1024;
 
 // Whether h is a Finished of that side, said to this agent, whatever its hash.
 fn told_here(file: &[u8], h: Heard, server: bool, to: u16) -> bool
@@ -31,7 +32,7 @@ fn told_here(file: &[u8], h: Heard, server: bool, to: u16) -> bool
     false
 }
 
-fn mark_row(marks: &mut [u8; 1024], r: u16)
+fn mark_row(marks: &mut [u8; ROW_LIMIT], r: u16)
     ensures { λ _. ⌜ now (marks .exit) ≡ markRow (now (marks .entry)) r ⌝ }
 {
     if r < ROWS {
@@ -41,8 +42,8 @@ fn mark_row(marks: &mut [u8; 1024], r: u16)
 
 fn mark_event(
     file: &[u8],
-    boxes: &[u16; 5248],
-    marks: &mut [u8; 1024],
+    boxes: &[u16; BOX_ROOM],
+    marks: &mut [u8; ROW_LIMIT],
     j: u16,
     server: bool,
     to: u16,
@@ -60,7 +61,13 @@ fn mark_event(
 }
 
 // The hashes of the Finished that an agent was told are marked.
-fn mark_told(file: &[u8], boxes: &[u16; 5248], marks: &mut [u8; 1024], server: bool, to: u16)
+fn mark_told(
+    file: &[u8],
+    boxes: &[u16; BOX_ROOM],
+    marks: &mut [u8; ROW_LIMIT],
+    server: bool,
+    to: u16,
+)
     ensures { λ _. ⌜ now (marks .exit) ≡
         markAll (now (file .entry)) (now (boxes .entry)) server to (chainFrom (now (boxes .entry)) (latestTo (now (boxes .entry)) to)) (now (marks .entry)) ⌝ }
 {
@@ -95,7 +102,7 @@ fn told_any(file: &[u8], e: u16, server: bool, to: u16, hash: u16) -> bool
 }
 
 // Whether a Finished with that hash was told. Only a file that is not readable has a hash past the marks.
-fn answered(file: &[u8], marks: &[u8; 1024], e: u16, server: bool, to: u16, hash: u16) -> bool
+fn answered(file: &[u8], marks: &[u8; ROW_LIMIT], e: u16, server: bool, to: u16, hash: u16) -> bool
     ensures { λ b. ⌜ b ≡ answeredIn (now (file .entry)) (now (marks .entry)) e server to hash ⌝ }
 {
     if hash < ROWS {
@@ -143,8 +150,8 @@ fn said_finished(
 // Whether event i is that Finished, and the other side's was told. It is read whole only where its hash was told.
 fn agreed_at(
     file: &[u8],
-    boxes: &[u16; 5248],
-    marks: &[u8; 1024],
+    boxes: &[u16; BOX_ROOM],
+    marks: &[u8; ROW_LIMIT],
     e: u16,
     i: u16,
     server: bool,
@@ -176,8 +183,8 @@ fn agreed_at(
 
 fn agreed_any(
     file: &[u8],
-    boxes: &[u16; 5248],
-    marks: &[u8; 1024],
+    boxes: &[u16; BOX_ROOM],
+    marks: &[u8; ROW_LIMIT],
     e: u16,
     server: bool,
     from: u16,
@@ -223,7 +230,7 @@ fn agreed_any(
 // the hashes that were told are marked first.
 fn both_finished(
     file: &[u8],
-    boxes: &[u16; 5248],
+    boxes: &[u16; BOX_ROOM],
     e: u16,
     server: bool,
     from: u16,
@@ -237,7 +244,7 @@ fn both_finished(
 ) -> bool
     ensures { λ r. ⌜ r ≡ bothIn (now (file .entry)) (now (boxes .entry)) e server from to sid a b m na nb ⌝ }
 {
-    let mut marks = [0u8; 1024];
+    let mut marks = [0u8; ROW_LIMIT];
     mark_told(file, boxes, &mut marks, !server, from);
     agreed_any(
         file,
@@ -271,7 +278,7 @@ fn noted_by_server(h: Heard, n: Remembered, p: Three) -> bool
 }
 
 // Rule 10: ClientAccepts.
-pub fn client_accepts(file: &[u8], boxes: &[u16; 5248], e: u16, h: Heard) -> bool
+pub fn client_accepts(file: &[u8], boxes: &[u16; BOX_ROOM], e: u16, h: Heard) -> bool
     ensures { λ b. ⌜ b ≡ clientAccepts (now (file .entry)) (found (now (file .entry)) (now (boxes .entry))) (bothIn (now (file .entry)) (now (boxes .entry)) e) h ⌝ }
 {
     if !h.says {
@@ -302,7 +309,7 @@ pub fn client_accepts(file: &[u8], boxes: &[u16; 5248], e: u16, h: Heard) -> boo
 }
 
 // Rule 11: ServerAccepts.
-pub fn server_accepts(file: &[u8], boxes: &[u16; 5248], e: u16, h: Heard) -> bool
+pub fn server_accepts(file: &[u8], boxes: &[u16; BOX_ROOM], e: u16, h: Heard) -> bool
     ensures { λ b. ⌜ b ≡ serverAccepts (now (file .entry)) (found (now (file .entry)) (now (boxes .entry))) (bothIn (now (file .entry)) (now (boxes .entry)) e) h ⌝ }
 {
     if !h.says {

@@ -10,6 +10,7 @@ use native.Mathlib.Decide.{decLt}
 use lib.Dec.{ltb, leb}
 use borrow.Author.Tests.{ltb-true, lt-ltb, le-ltb, le-leb, lt-leb, ne-eqb}
 use lib.ListN.{getD, set}
+use Rattle.trace.specs.File.{rowLimit}
 use Rattle.trace.specs.Rows.{kindAt, fieldsAt, rowAt}
 use Rattle.trace.specs.declared.Row.{Row}
 use Rattle.trace.specs.declared.rows.Fields.{Fields}
@@ -39,7 +40,7 @@ module _ (file : List ℕ) where
   unfolding learnRow
   deeper zero rs ks row l = absurd (omega arith)
   deeper (suc d) rs ks row l =
-      by-test (rowMarked rs row || leb 1024 row)
+      by-test (rowMarked rs row || leb rowLimit row)
       (with-same (learnRow file (suc d)) (learnRow file d) row (λ rs′ ks′ x h. deeper d rs′ ks′ x (omega arith)) rs ks (sidesOf file rs ks row (rowAt file row)) (rowAt file row))
     where
       by-test : (b : Bool) → {s t : State} → s ≡ t →
@@ -57,11 +58,11 @@ module _ (file : List ℕ) where
     unfolding learnRow
     learn-known e = rw (e, learnRow)
 
-    pub learn-past : 1024 ≤ row → stateOf rs ks false ≡ learnRow file (suc row) rs ks row
+    pub learn-past : rowLimit ≤ row → stateOf rs ks false ≡ learnRow file (suc row) rs ks row
     unfolding learnRow
-    learn-past l = rw (le-leb 1024 row l, or-true (rowMarked rs row), learnRow)
+    learn-past l = rw (le-leb rowLimit row l, or-true (rowMarked rs row), learnRow)
 
-    pub learn-open : rowMarked rs row ≡ false → row < 1024 →
+    pub learn-open : rowMarked rs row ≡ false → row < rowLimit →
         (sides : Sides) → sides ≡ sidesOf file rs ks row (rowAt file row) →
         (lr lk : List ℕ) (lf : Bool) → stateOf lr lk lf ≡ below (learnRow file row) rs ks row (sides .left) →
         (rr rk : List ℕ) (rf : Bool) → stateOf rr rk rf ≡ below (learnRow file row) lr lk row (sides .right) →
@@ -69,7 +70,7 @@ module _ (file : List ℕ) where
         stateOf (set rr row 1) kk (lf || rf || sides .key) ≡ learnRow file (suc row) rs ks row
     unfolding learnRow
     learn-open unmarked room sides se lr lk lf le rr rk rf re kk ke =
-        rw (unmarked, lt-leb 1024 row room, learnRow, ← se, ← le, ← re, ke)
+        rw (unmarked, lt-leb rowLimit row room, learnRow, ← se, ← le, ← re, ke)
 
     pub below-taken : (x : ℕ) → x < row → learnRow file (suc x) rs ks x ≡ below (learnRow file row) rs ks row x
     below-taken x l = rw (lt-ltb x row l, below) (sym (any-depth row rs ks x l))
@@ -89,11 +90,11 @@ module _ (file : List ℕ) where
         go (yes l) = learn-known rs ks x m ∙ below-taken rs ks row x l
         go (no l) = below-left rs ks row x (omega arith)
 
-    pub mark-is : row < 1024 → getD rs row 0 ≡ 1 → rowMarked rs row ≡ true
-    mark-is l e = rw (lt-ltb row 1024 l, e) refl
+    pub mark-is : row < rowLimit → getD rs row 0 ≡ 1 → rowMarked rs row ≡ true
+    mark-is l e = rw (lt-ltb row rowLimit l, e) refl
 
-    pub mark-not : row < 1024 → ¬ (getD rs row 0 ≡ 1) → rowMarked rs row ≡ false
-    mark-not l n = rw (lt-ltb row 1024 l, ne-eqb (getD rs row 0) 1 n) refl
+    pub mark-not : row < rowLimit → ¬ (getD rs row 0 ≡ 1) → rowMarked rs row ≡ false
+    mark-not l n = rw (lt-ltb row rowLimit l, ne-eqb (getD rs row 0) 1 n) refl
 
     pub reopen-unmarked : rowMarked rs row ≡ false → stateOf rs ks false ≡ reopenRow file rs ks row
     reopen-unmarked u = rw (u, reopenRow) refl

@@ -13,7 +13,7 @@ use Rattle.paper.specs.Event as event
 use Rattle.paper.specs.Event.{trace, here, there}
 use Rattle.paper.specs.Spy.{Starts, own, Spies, start, said, noted, Analz, inj, fst, snd, decrypt}
 use Rattle.paper.proofs.Closures.{analz-mono}
-use Rattle.trace.specs.File.{rowsOf, compromisedIn}
+use Rattle.trace.specs.File.{rowLimit, agentLimit, rowsOf, compromisedIn}
 use Rattle.trace.specs.Rows.{rowAt}
 use Rattle.trace.specs.Meaning.{message, eventMeant, bad}
 use Rattle.trace.specs.Promises.{Promised, Keeps, crypt, pair, Unfolds, asPublic, asPrivate, asSession, asCrypt, asPair, Exists, says, notes}
@@ -23,7 +23,7 @@ use Rattle.trace.specs.declared.Row.{Row}
 use Rattle.trace.specs.declared.Event.{Event}
 use Rattle.trace.specs.declared.Event.the-variants.{Says, Notes}
 use Rattle.trace.proofs.First.{bool-cases}
-use Rattle.closure.specs.Closure.{opensRow, opens, sidesOf, seeRow, seeEvent}
+use Rattle.closure.specs.Closure.{keyRoom, opensRow, opens, sidesOf, seeRow, seeEvent}
 use Rattle.closure.proofs.Marks.{Marked, Known}
 use Rattle.closure.proofs.Grew.{Held}
 use Rattle.closure.proofs.Passes.{AllClosed, see-settles}
@@ -38,12 +38,12 @@ module _ (file : List ℕ) (P : Promised file) where
   Has rs X = (x : ℕ) × (x < rowsOf file) × (message file x ≡ X) × Marked rs x
 
   pub record Good (evs : trace) (rs ks : List ℕ) : Type 0 where
-    pub room : length rs ≡ 1024
-    pub room-keys : length ks ≡ 128
+    pub room : length rs ≡ rowLimit
+    pub room-keys : length ks ≡ keyRoom
     pub sound : Sound file P (H evs) rs ks
     pub closed : AllClosed file P rs ks
     pub held : (x : ℕ) → x < rowsOf file → Marked rs x → Held ks (rowAt file x)
-    pub keys : (A : ℕ) → bad file A → Known ks (64 + A)
+    pub keys : (A : ℕ) → bad file A → Known ks (agentLimit + A)
     pub rows : (x A : ℕ) → x < rowsOf file → bad file A → message file x ≡ paper.Key (paper.priK A) → Marked rs x
     pub seen : (X : paper.msg) → H evs X → Starts (bad file) X ⊎ Has rs X
 
@@ -71,13 +71,13 @@ module _ (file : List ℕ) (P : Promised file) where
     right-has (inr h) = inr (pair-has h .1)
 
     -- the key of a row that is held is known
-    private-held : (R : Row) {A : ℕ} → Unfolds (message file) R (paper.Key (paper.priK A)) → Held ks R → Known ks (64 + A)
+    private-held : (R : Row) {A : ℕ} → Unfolds (message file) R (paper.Key (paper.priK A)) → Held ks R → Known ks (agentLimit + A)
     private-held R (asPrivate q) h = rw q at h
 
     public-held : (R : Row) {A : ℕ} → Unfolds (message file) R (paper.Key (paper.pubK A)) → Held ks R → Known ks A
     public-held R (asPublic q) h = rw q at h
 
-    private-known : {A : ℕ} → Holds (paper.Key (paper.priK A)) → Known ks (64 + A)
+    private-known : {A : ℕ} → Holds (paper.Key (paper.priK A)) → Known ks (agentLimit + A)
     private-known (inl (own {A} b)) = g .keys A b
     private-known (inr (x, l, e, m)) = private-held (rowAt file x) (rw e at (P .unfolds x l)) (g .held x l m)
 
@@ -166,7 +166,7 @@ module _ (file : List ℕ) (P : Promised file) where
         sound = see-sound file P (H (e ∷ evs)) rs ks r (g .room) (g .room-keys) l (sound-older (g .sound)) (inj h);
         closed = s .0 .closed;
         held = s .0 .held (g .held);
-        keys = λ A b. s .0 .keys (64 + A) (g .keys A b);
+        keys = λ A b. s .0 .keys (agentLimit + A) (g .keys A b);
         rows = λ x A lx b q. s .0 .rows x (g .rows x A lx b q);
         seen = λ X i. was (seeRow file rs ks r .rows) (s .0 .rows) (s .1) X (new X i);
       }

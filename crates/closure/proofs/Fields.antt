@@ -8,6 +8,7 @@ use native.Mathlib.Omega.{arith}
 use native.Mathlib.Decide.{decLt}
 use lib.Dec.{eqb, leb}
 use borrow.Author.Tests.{ne-eqb}
+use Rattle.trace.specs.File.{agentLimit}
 use Rattle.trace.specs.Rows.{choose, rowOf}
 use Rattle.trace.specs.declared.Row.{Row}
 use Rattle.trace.specs.declared.Row.the-variants.{Pair}
@@ -54,7 +55,7 @@ pair-kind f l =
     above n h = ne-eqb (f .kind) n (λ e. omega arith)
 
 module _ (rs ks : List ℕ) (f : Fields) (k : ℕ) where
-  pub opens-public : f .kind ≡ 4 → keyMarked ks (64 + f .first) ≡ opensRow rs ks k (rowOf f)
+  pub opens-public : f .kind ≡ 4 → keyMarked ks (agentLimit + f .first) ≡ opensRow rs ks k (rowOf f)
   unfolding rowOf
   opens-public e = rw e refl
 
@@ -83,7 +84,7 @@ module _ (ks : List ℕ) (f : Fields) where
   unfolding rowOf
   know-public e = rw e (public-known ks (f .first))
 
-  pub know-private : f .kind ≡ 5 → know ks (64 + f .first) ≡ knowRow ks (rowOf f)
+  pub know-private : f .kind ≡ 5 → know ks (agentLimit + f .first) ≡ knowRow ks (rowOf f)
   unfolding rowOf
   know-private e = rw e refl
 
@@ -104,7 +105,7 @@ module _ (ks : List ℕ) (f : Fields) where
   unfolding rowOf
   known-public e = rw e (public-marked ks (f .first))
 
-  pub known-private : f .kind ≡ 5 → keyMarked ks (64 + f .first) ≡ keyKnown ks (rowOf f)
+  pub known-private : f .kind ≡ 5 → keyMarked ks (agentLimit + f .first) ≡ keyKnown ks (rowOf f)
   unfolding rowOf
   known-private e = rw e refl
 

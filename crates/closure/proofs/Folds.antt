@@ -8,12 +8,12 @@ use mathlib.Core.Path.{_≡_, refl, sym, _∙_, ap}
 use native.Mathlib.Omega.{arith}
 use native.Mathlib.Numerals.{add-one}
 use borrow.Author.Tests.{le-ltb}
-use Rattle.trace.specs.File.{rowsOf, compromisedIn}
+use Rattle.trace.specs.File.{rowLimit, agentLimit, rowsOf, compromisedIn}
 use Rattle.trace.specs.Rows.{choose, rowAt}
 use Rattle.trace.specs.Events.{eventAt}
 use Rattle.trace.proofs.Both.{or-true, or-none}
 use Rattle.trace.proofs.First.{bool-cases}
-use Rattle.closure.specs.Closure.{State, stateOf, know, reopens, reopenRow, upRows, downRows, passRows, Reaches, settle, startKeys, keyKnown, markRow, startRows, seeEvent, zeros, knownAfter}
+use Rattle.closure.specs.Closure.{keyRoom, State, stateOf, know, reopens, reopenRow, upRows, downRows, passRows, Reaches, settle, startKeys, keyKnown, markRow, startRows, seeEvent, zeros, knownAfter}
 
 module _ (file : List ℕ) where
   pub up-none : (rows keys : List ℕ) → stateOf rows keys false ≡ upRows file 0 rows keys
@@ -95,25 +95,25 @@ module _ (file : List ℕ) where
         go (inr e) = pass-over n rs ks e ∙ up-less rs ks ∙ sym (pass-over (suc n) rs ks (rw (← up-less rs ks) e))
 
   -- a row past the marks is none
-  none-past : (r : ℕ) → 1024 ≤ r → (rs : List ℕ) → reopens file rs r ≡ false
-  none-past r l rs = rw (le-ltb r 1024 l) refl
+  none-past : (r : ℕ) → rowLimit ≤ r → (rs : List ℕ) → reopens file rs r ≡ false
+  none-past r l rs = rw (le-ltb r rowLimit l) refl
 
-  pass-past : (k : ℕ) (rs ks : List ℕ) → passRows file 1024 rs ks ≡ passRows file (1024 + k) rs ks
+  pass-past : (k : ℕ) (rs ks : List ℕ) → passRows file rowLimit rs ks ≡ passRows file (rowLimit + k) rs ks
   pass-past zero rs ks = refl
   pass-past (suc k) rs ks =
-      let q : suc (1024 + k) ≡ 1024 + suc k = omega arith in
-      pass-past k rs ks ∙ pass-suc (1024 + k) (none-past (1024 + k) (omega arith)) rs ks ∙ ap (λ (m : ℕ). passRows file m rs ks) q
+      let q : suc (rowLimit + k) ≡ rowLimit + suc k = omega arith in
+      pass-past k rs ks ∙ pass-suc (rowLimit + k) (none-past (rowLimit + k) (omega arith)) rs ks ∙ ap (λ (m : ℕ). passRows file m rs ks) q
 
   pub reaches-all : (n : ℕ) → n ≡ rowsOf file → Reaches file n
   reaches-all n e rs ks = rw e refl
 
-  pub reaches-marks : (n : ℕ) → n ≡ rowsOf file → 1024 < n → Reaches file 1024
+  pub reaches-marks : (n : ℕ) → n ≡ rowsOf file → rowLimit < n → Reaches file rowLimit
   reaches-marks n e l rs ks =
-      let q : 1024 + (rowsOf file - 1024) ≡ rowsOf file = omega (arith, e) in
-      pass-past (rowsOf file - 1024) rs ks ∙ ap (λ (m : ℕ). passRows file m rs ks) q
+      let q : rowLimit + (rowsOf file - rowLimit) ≡ rowsOf file = omega (arith, e) in
+      pass-past (rowsOf file - rowLimit) rs ks ∙ ap (λ (m : ℕ). passRows file m rs ks) q
 
   pub keys-more : (a : ℕ) (keys ks ks′ : List ℕ) → ks ≡ startKeys file a keys →
-      ks′ ≡ choose (compromisedIn file a) (know ks (64 + a)) ks → ks′ ≡ startKeys file (a + 1) keys
+      ks′ ≡ choose (compromisedIn file a) (know ks (agentLimit + a)) ks → ks′ ≡ startKeys file (a + 1) keys
   unfolding startKeys
   keys-more a keys ks ks′ e q = rw (add-one, ← e) q
 
@@ -144,31 +144,31 @@ module _ (file : List ℕ) where
   unfolding settle
   settle-suc d rs ks = refl
 
-  pub settle-pass : (p : ℕ) (rs ks : List ℕ) → p < 1024 →
-      settle file (1024 - p) (stateOf rs ks true) ≡ settle file (1024 - (p + 1)) (passRows file (rowsOf file) rs ks)
+  pub settle-pass : (p : ℕ) (rs ks : List ℕ) → p < rowLimit →
+      settle file (rowLimit - p) (stateOf rs ks true) ≡ settle file (rowLimit - (p + 1)) (passRows file (rowsOf file) rs ks)
   settle-pass p rs ks l =
-      let e : 1024 - p ≡ suc (1024 - (p + 1)) = omega arith in
-      rw e (settle-suc (1024 - (p + 1)) rs ks)
+      let e : rowLimit - p ≡ suc (rowLimit - (p + 1)) = omega arith in
+      rw e (settle-suc (rowLimit - (p + 1)) rs ks)
 
   -- what was left to settle gives the end
   pub see-end : {s t : State} (d : ℕ) (rs ks : List ℕ) {f : Bool} → s ≡ t →
-      settle file d (stateOf rs ks f) ≡ settle file 1024 s → f ≡ false → stateOf rs ks f ≡ settle file 1024 t
+      settle file d (stateOf rs ks f) ≡ settle file rowLimit s → f ≡ false → stateOf rs ks f ≡ settle file rowLimit t
   see-end d rs ks {f} e q z = rw (← e, ← q, z) (sym (settled d rs ks))
 
-  pub see-last : {s t : State} (p : ℕ) (rs ks : List ℕ) {f : Bool} → s ≡ t → 1024 - p ≡ 0 →
-      settle file (1024 - p) (stateOf rs ks f) ≡ settle file 1024 s → stateOf rs ks f ≡ settle file 1024 t
+  pub see-last : {s t : State} (p : ℕ) (rs ks : List ℕ) {f : Bool} → s ≡ t → rowLimit - p ≡ 0 →
+      settle file (rowLimit - p) (stateOf rs ks f) ≡ settle file rowLimit s → stateOf rs ks f ≡ settle file rowLimit t
   see-last p rs ks {f} e z q = rw (← e, ← q, z) (sym (settle-none (stateOf rs ks f)))
 
-  pub see-more : {t : State} (p : ℕ) (rs ks rs′ ks′ : List ℕ) {f g : Bool} → p < 1024 → f ≡ true →
-      settle file (1024 - p) (stateOf rs ks f) ≡ t → stateOf rs′ ks′ g ≡ passRows file (rowsOf file) rs ks →
-      settle file (1024 - (p + 1)) (stateOf rs′ ks′ g) ≡ t
+  pub see-more : {t : State} (p : ℕ) (rs ks rs′ ks′ : List ℕ) {f g : Bool} → p < rowLimit → f ≡ true →
+      settle file (rowLimit - p) (stateOf rs ks f) ≡ t → stateOf rs′ ks′ g ≡ passRows file (rowsOf file) rs ks →
+      settle file (rowLimit - (p + 1)) (stateOf rs′ ks′ g) ≡ t
   see-more p rs ks rs′ ks′ {f} {g} l z q r = rw (← q, z, r) (sym (settle-pass p rs ks l))
 
   abbrev Is : (rs ks : List ℕ) → State → Type 0
   Is rs ks s = (rs ≡ s .rows) × (ks ≡ s .keys)
 
-  pub known-start : (rs₀ ks₀ rs ks : List ℕ) → rs₀ ≡ zeros 1024 → ks₀ ≡ zeros 128 → ks ≡ startKeys file 64 ks₀ →
-      rs ≡ startRows file (startKeys file 64 ks₀) (rowsOf file) rs₀ → Is rs ks (knownAfter file 0)
+  pub known-start : (rs₀ ks₀ rs ks : List ℕ) → rs₀ ≡ zeros rowLimit → ks₀ ≡ zeros keyRoom → ks ≡ startKeys file agentLimit ks₀ →
+      rs ≡ startRows file (startKeys file agentLimit ks₀) (rowsOf file) rs₀ → Is rs ks (knownAfter file 0)
   unfolding knownAfter
   known-start rs₀ ks₀ rs ks er ek k r = (rw (← er, ← ek) r, rw (← ek) k)
 

@@ -11,14 +11,14 @@ use native.Mathlib.Decide.{ℕ-discrete}
 use lib.Dec.{ltb}
 use lib.ListN.{length, set, length-set}
 use borrow.Author.Tests.{ltb-true, lt-ltb, lt-leb}
-use Rattle.trace.specs.File.{rowsOf}
+use Rattle.trace.specs.File.{rowLimit, agentLimit, rowsOf}
 use Rattle.trace.specs.Rows.{fieldsAt, kindAt, rowAt}
 use Rattle.trace.specs.Promises.{Promised, Keeps, agent, number, nonce, prf, publicKey, privateKey, sessionKey, hash, crypt, pair}
 use Rattle.trace.specs.declared.Row.{Row}
 use Rattle.trace.specs.declared.Row.the-variants.{Agent, Number, Nonce, Prf, PublicKey, PrivateKey, SessionKey, Hash, Crypt, Pair}
 use Rattle.trace.proofs.First.{bool-cases}
 use Rattle.trace.proofs.Refusal.{or-false, or-false-right}
-use Rattle.closure.specs.Closure.{State, stateOf, rowMarked, knowRow, opensRow, opens, sidesOf, below, bothSides, learnWith, learnRow}
+use Rattle.closure.specs.Closure.{keyRoom, State, stateOf, rowMarked, knowRow, opensRow, opens, sidesOf, below, bothSides, learnWith, learnRow}
 use Rattle.closure.specs.declared.Sides.{Sides}
 use Rattle.closure.proofs.Fields.{sides-fixed}
 use Rattle.closure.proofs.Marks.{Marked, Known, row-same, row-other, row-keep, know-same, knowRow-keep, knowRow-room}
@@ -30,7 +30,7 @@ Held ks (Number n) = Unit {0}
 Held ks (Nonce n) = Unit {0}
 Held ks (Prf s x y) = Unit {0}
 Held ks (PublicKey a) = Known ks (a .0)
-Held ks (PrivateKey a) = Known ks (64 + a .0)
+Held ks (PrivateKey a) = Known ks (agentLimit + a .0)
 Held ks (SessionKey o x y z) = Unit {0}
 Held ks (Hash x) = Unit {0}
 Held ks (Crypt k x) = Unit {0}
@@ -42,7 +42,7 @@ held-keep ks ks′ k (Number n) h = tt
 held-keep ks ks′ k (Nonce n) h = tt
 held-keep ks ks′ k (Prf s x y) h = tt
 held-keep ks ks′ k (PublicKey a) h = k (a .0) h
-held-keep ks ks′ k (PrivateKey a) h = k (64 + a .0) h
+held-keep ks ks′ k (PrivateKey a) h = k (agentLimit + a .0) h
 held-keep ks ks′ k (SessionKey o x y z) h = tt
 held-keep ks ks′ k (Hash x) h = tt
 held-keep ks ks′ k (Crypt l x) h = tt
@@ -64,8 +64,8 @@ module _ (file : List ℕ) (P : Promised file) where
       (sides-at rs ks x .right < x → Marked rs (sides-at rs ks x .right)))
 
   pub record Grew (rs ks : List ℕ) (t : State) : Type 0 where
-    pub room : length (t .rows) ≡ 1024
-    pub room-keys : length (t .keys) ≡ 128
+    pub room : length (t .rows) ≡ rowLimit
+    pub room-keys : length (t .keys) ≡ keyRoom
     pub rows : (x : ℕ) → Marked rs x → Marked (t .rows) x
     pub keys : (i : ℕ) → Known ks i → Known (t .keys) i
     pub held : ((x : ℕ) → x < rowsOf file → Marked rs x → Held ks (rowAt file x)) →
@@ -73,9 +73,9 @@ module _ (file : List ℕ) (P : Promised file) where
     pub same : t .fresh ≡ false → (k : ℕ) → k < rowsOf file → opens file (t .rows) (t .keys) k ≡ opens file rs ks k
     pub closed : t .fresh ≡ false → (x : ℕ) → x < rowsOf file → Closed rs ks x → Closed (t .rows) (t .keys) x
     pub steady : (x : ℕ) → ¬ (kindAt file x ≡ 8) → Closed rs ks x → Closed (t .rows) (t .keys) x
-    pub new : t .fresh ≡ true → (x : ℕ) × (x < 1024) × (rowMarked rs x ≡ false) × Marked (t .rows) x
+    pub new : t .fresh ≡ true → (x : ℕ) × (x < rowLimit) × (rowMarked rs x ≡ false) × Marked (t .rows) x
 
-  pub grew-still : (rs ks : List ℕ) → length rs ≡ 1024 → length ks ≡ 128 → Grew rs ks (stateOf rs ks false)
+  pub grew-still : (rs ks : List ℕ) → length rs ≡ rowLimit → length ks ≡ keyRoom → Grew rs ks (stateOf rs ks false)
   grew-still rs ks r k =
       record {
         room = r;
@@ -112,12 +112,12 @@ module _ (file : List ℕ) (P : Promised file) where
         new = λ e. ⊎-elim (λ a. from-first (g .new a)) (λ b. from-second (h .new b)) (or-cases (s .fresh) (t .fresh) e);
       }
     where
-      from-first : (x : ℕ) × (x < 1024) × (rowMarked rs x ≡ false) × Marked (s .rows) x →
-          (x : ℕ) × (x < 1024) × (rowMarked rs x ≡ false) × Marked (t .rows) x
+      from-first : (x : ℕ) × (x < rowLimit) × (rowMarked rs x ≡ false) × Marked (s .rows) x →
+          (x : ℕ) × (x < rowLimit) × (rowMarked rs x ≡ false) × Marked (t .rows) x
       from-first (x, l, u, m) = (x, l, u, h .rows x m)
 
-      from-second : (x : ℕ) × (x < 1024) × (rowMarked (s .rows) x ≡ false) × Marked (t .rows) x →
-          (x : ℕ) × (x < 1024) × (rowMarked rs x ≡ false) × Marked (t .rows) x
+      from-second : (x : ℕ) × (x < rowLimit) × (rowMarked (s .rows) x ≡ false) × Marked (t .rows) x →
+          (x : ℕ) × (x < rowLimit) × (rowMarked rs x ≡ false) × Marked (t .rows) x
       from-second (x, l, u, m) = (x, l, unmarked-before rs (s .rows) (g .rows) x u, m)
 
   -- sides depend on the state by way of `opens` alone
@@ -159,7 +159,7 @@ module _ (file : List ℕ) (P : Promised file) where
   knowRow-none rs ks ks′ row (Crypt l x) e = refl
   knowRow-none rs ks ks′ row (Pair x y) e = refl
 
-  opens-other : (rs ks : List ℕ) → length rs ≡ 1024 → (row k : ℕ) (R : Row) → ¬ (k ≡ row) → opensRow (set rs row 1) ks k R ≡ opensRow rs ks k R
+  opens-other : (rs ks : List ℕ) → length rs ≡ rowLimit → (row k : ℕ) (R : Row) → ¬ (k ≡ row) → opensRow (set rs row 1) ks k R ≡ opensRow rs ks k R
   opens-other rs ks room row k (Agent a) n = refl
   opens-other rs ks room row k (Number m) n = refl
   opens-other rs ks room row k (Nonce m) n = refl
@@ -171,7 +171,7 @@ module _ (file : List ℕ) (P : Promised file) where
   opens-other rs ks room row k (Crypt l x) n = refl
   opens-other rs ks room row k (Pair x y) n = refl
 
-  mark-same : (rs ks rs₀ ks₀ : List ℕ) → length rs ≡ 1024 → (row k : ℕ) → sides-at rs₀ ks₀ row .key ≡ false →
+  mark-same : (rs ks rs₀ ks₀ : List ℕ) → length rs ≡ rowLimit → (row k : ℕ) → sides-at rs₀ ks₀ row .key ≡ false →
       opens file (set rs row 1) (knowRow ks (rowAt file row)) k ≡ opens file rs ks k
   mark-same rs ks rs₀ ks₀ room row k e =
       rw (knowRow-none rs₀ ks₀ ks row (rowAt file row) e) (go (ℕ-discrete k row))
@@ -181,13 +181,13 @@ module _ (file : List ℕ) (P : Promised file) where
       go (no n) = opens-other rs ks room row k (rowAt file k) n
 
   -- the key of a row that is learnt becomes known
-  held-new : (ks : List ℕ) → length ks ≡ 128 → (row : ℕ) (R : Row) → Keeps file row R → Held (knowRow ks R) R
+  held-new : (ks : List ℕ) → length ks ≡ keyRoom → (row : ℕ) (R : Row) → Keeps file row R → Held (knowRow ks R) R
   held-new ks room row R (agent h) = tt
   held-new ks room row R number = tt
   held-new ks room row R nonce = tt
   held-new ks room row R (prf a b c) = tt
   held-new ks room row R (publicKey {a = a} h) = know-same ks room (a .0) (omega arith)
-  held-new ks room row R (privateKey {a = a} h) = know-same ks room (64 + a .0) (omega arith)
+  held-new ks room row R (privateKey {a = a} h) = know-same ks room (agentLimit + a .0) (omega arith)
   held-new ks room row R (sessionKey a b c) = tt
   held-new ks room row R (hash h) = tt
   held-new ks room row R (crypt b h) = tt
@@ -203,7 +203,7 @@ module _ (file : List ℕ) (P : Promised file) where
     abbrev t : State
     t = stateOf (set (b .rows) row 1) (knowRow (b .keys) R) (b .fresh || sides-at rs ks row .key)
 
-    few : row < 1024
+    few : row < rowLimit
     few = omega (arith, P .few-rows)
 
     grow : (x : ℕ) → Marked (b .rows) x → Marked (t .rows) x
@@ -262,14 +262,14 @@ module _ (file : List ℕ) (P : Promised file) where
   -- learning a row, as far as a depth goes
   abbrev Learns : ℕ → Type 0
   Learns d =
-      (rs ks : List ℕ) (row : ℕ) → length rs ≡ 1024 → length ks ≡ 128 → row < rowsOf file → row < d →
+      (rs ks : List ℕ) (row : ℕ) → length rs ≡ rowLimit → length ks ≡ keyRoom → row < rowsOf file → row < d →
       Grew rs ks (learnRow file d rs ks row) × Marked (learnRow file d rs ks row .rows) row
 
   module _ (d : ℕ) (learns : Learns d) (row : ℕ) (in-file : row < rowsOf file) (deep : row ≤ d) where
     abbrev go : List ℕ → List ℕ → ℕ → State
     go = learnRow file d
 
-    below-cases : (rs ks : List ℕ) (x : ℕ) → length rs ≡ 1024 → length ks ≡ 128 → (b : Bool) → ltb x row ≡ b →
+    below-cases : (rs ks : List ℕ) (x : ℕ) → length rs ≡ rowLimit → length ks ≡ keyRoom → (b : Bool) → ltb x row ≡ b →
         Grew rs ks (elim b [ true ↦ go rs ks x | false ↦ stateOf rs ks false ]) ×
         (x < row → Marked ((elim b as (λ _. State) [ true ↦ go rs ks x | false ↦ stateOf rs ks false ]) .rows) x)
     below-cases rs ks x r k true e =
@@ -278,11 +278,11 @@ module _ (file : List ℕ) (P : Promised file) where
         (g .0, λ _. g .1)
     below-cases rs ks x r k false e = (grew-still rs ks r k, λ l. absurd (true≢false (sym (lt-ltb x row l) ∙ e)))
 
-    pub below-grew : (rs ks : List ℕ) (x : ℕ) → length rs ≡ 1024 → length ks ≡ 128 →
+    pub below-grew : (rs ks : List ℕ) (x : ℕ) → length rs ≡ rowLimit → length ks ≡ keyRoom →
         Grew rs ks (below go rs ks row x) × (x < row → Marked (below go rs ks row x .rows) x)
     below-grew rs ks x r k = below-cases rs ks x r k (ltb x row) refl
 
-    pub both-grew : (rs ks : List ℕ) (s : Sides) → length rs ≡ 1024 → length ks ≡ 128 →
+    pub both-grew : (rs ks : List ℕ) (s : Sides) → length rs ≡ rowLimit → length ks ≡ keyRoom →
         Grew rs ks (bothSides go rs ks row s) ×
         (s .left < row → Marked (bothSides go rs ks row s .rows) (s .left)) ×
         (s .right < row → Marked (bothSides go rs ks row s .rows) (s .right))
@@ -292,7 +292,7 @@ module _ (file : List ℕ) (P : Promised file) where
         let g = below-grew (b .rows) (b .keys) (s .right) (l .0 .room) (l .0 .room-keys) in
         (grew-then (l .0) (g .0), λ h. g .0 .rows (s .left) (l .1 h), λ h. g .1 h)
 
-    with-grew : (rs ks : List ℕ) → length rs ≡ 1024 → length ks ≡ 128 → rowMarked rs row ≡ false →
+    with-grew : (rs ks : List ℕ) → length rs ≡ rowLimit → length ks ≡ keyRoom → rowMarked rs row ≡ false →
         Grew rs ks (learnWith go rs ks row (sides-at rs ks row) (rowAt file row)) ×
         Marked (learnWith go rs ks row (sides-at rs ks row) (rowAt file row) .rows) row
     with-grew rs ks r k u =
@@ -301,13 +301,13 @@ module _ (file : List ℕ) (P : Promised file) where
           row-same (bothSides go rs ks row (sides-at rs ks row) .rows) (b .0 .room) row (omega (arith, P .few-rows)),
         )
 
-  learn-cases : (d : ℕ) → Learns d → (rs ks : List ℕ) (row : ℕ) → length rs ≡ 1024 → length ks ≡ 128 → row < rowsOf file → row ≤ d →
+  learn-cases : (d : ℕ) → Learns d → (rs ks : List ℕ) (row : ℕ) → length rs ≡ rowLimit → length ks ≡ keyRoom → row < rowsOf file → row ≤ d →
       (rowMarked rs row ≡ true) ⊎ (rowMarked rs row ≡ false) →
       Grew rs ks (learnRow file (suc d) rs ks row) × Marked (learnRow file (suc d) rs ks row .rows) row
   unfolding learnRow
   learn-cases d learns rs ks row r k l h (inl m) = rw (m, learnRow) (grew-still rs ks r k, m)
   learn-cases d learns rs ks row r k l h (inr u) =
-      rw (u, lt-leb 1024 row (omega (arith, P .few-rows)), learnRow) (with-grew d learns row l h rs ks r k u)
+      rw (u, lt-leb rowLimit row (omega (arith, P .few-rows)), learnRow) (with-grew d learns row l h rs ks r k u)
 
   pub learns : (d : ℕ) → Learns d
   learns zero rs ks row r k l h = absurd (omega arith)

@@ -10,11 +10,12 @@ use lib.Dec.{eqb, ltb}
 use lib.ListN.{length, getD, set, length-set, replicate, getD-replicate}
 use lib.Seq.{getD-set-same, getD-set-other}
 use borrow.Author.Tests.{lt-ltb, le-ltb, ltb-true}
+use Rattle.trace.specs.File.{rowLimit, agentLimit}
 use Rattle.trace.specs.Rows.{choose}
 use Rattle.trace.proofs.Both.{both}
 use Rattle.trace.specs.declared.Row.{Row}
 use Rattle.trace.specs.declared.Row.the-variants.{Agent, Number, Nonce, Prf, PublicKey, PrivateKey, SessionKey, Hash, Crypt, Pair}
-use Rattle.closure.specs.Closure.{rowMarked, keyMarked, know, knowRow, markRow}
+use Rattle.closure.specs.Closure.{keyRoom, rowMarked, keyMarked, know, knowRow, markRow}
 
 -- a mark in an array with room for m
 abbrev pub mark-at : ℕ → List ℕ → ℕ → Bool
@@ -90,43 +91,43 @@ public-marked ks a = let e : 0 + a ≡ a = omega arith in rw e
 pub public-known : (ks : List ℕ) (a : ℕ) → know ks (0 + a) ≡ know ks a
 public-known ks a = let e : 0 + a ≡ a = omega arith in rw e
 
-module _ (rs : List ℕ) (room : length rs ≡ 1024) where
-  pub marked-below : (x : ℕ) → Marked rs x → x < 1024
-  marked-below = mark-below 1024 rs room
+module _ (rs : List ℕ) (room : length rs ≡ rowLimit) where
+  pub marked-below : (x : ℕ) → Marked rs x → x < rowLimit
+  marked-below = mark-below rowLimit rs room
 
-  pub row-same : (r : ℕ) → r < 1024 → Marked (set rs r 1) r
-  row-same = set-same 1024 rs room
+  pub row-same : (r : ℕ) → r < rowLimit → Marked (set rs r 1) r
+  row-same = set-same rowLimit rs room
 
   pub row-other : (r x : ℕ) → ¬ (x ≡ r) → rowMarked (set rs r 1) x ≡ rowMarked rs x
-  row-other = set-other 1024 rs room
+  row-other = set-other rowLimit rs room
 
   pub row-keep : (r x : ℕ) → Marked rs x → Marked (set rs r 1) x
-  row-keep = set-keep 1024 rs room
+  row-keep = set-keep rowLimit rs room
 
-  pub mark-same : (r : ℕ) → r < 1024 → Marked (markRow rs r) r
-  mark-same = put-same 1024 rs room
+  pub mark-same : (r : ℕ) → r < rowLimit → Marked (markRow rs r) r
+  mark-same = put-same rowLimit rs room
 
   pub mark-other : (r x : ℕ) → ¬ (x ≡ r) → rowMarked (markRow rs r) x ≡ rowMarked rs x
-  mark-other = put-other 1024 rs room
+  mark-other = put-other rowLimit rs room
 
   pub mark-keep : (r x : ℕ) → Marked rs x → Marked (markRow rs r) x
-  mark-keep = put-keep 1024 rs room
+  mark-keep = put-keep rowLimit rs room
 
-  pub mark-room : (r : ℕ) → length (markRow rs r) ≡ 1024
-  mark-room = put-room 1024 rs room
+  pub mark-room : (r : ℕ) → length (markRow rs r) ≡ rowLimit
+  mark-room = put-room rowLimit rs room
 
-module _ (ks : List ℕ) (room : length ks ≡ 128) where
-  pub know-same : (i : ℕ) → i < 128 → Known (know ks i) i
-  know-same = put-same 128 ks room
+module _ (ks : List ℕ) (room : length ks ≡ keyRoom) where
+  pub know-same : (i : ℕ) → i < keyRoom → Known (know ks i) i
+  know-same = put-same keyRoom ks room
 
   pub know-other : (i j : ℕ) → ¬ (j ≡ i) → keyMarked (know ks i) j ≡ keyMarked ks j
-  know-other = put-other 128 ks room
+  know-other = put-other keyRoom ks room
 
   pub know-keep : (i j : ℕ) → Known ks j → Known (know ks i) j
-  know-keep = put-keep 128 ks room
+  know-keep = put-keep keyRoom ks room
 
-  pub know-room : (i : ℕ) → length (know ks i) ≡ 128
-  know-room = put-room 128 ks room
+  pub know-room : (i : ℕ) → length (know ks i) ≡ keyRoom
+  know-room = put-room keyRoom ks room
 
   pub knowRow-keep : (R : Row) (j : ℕ) → Known ks j → Known (knowRow ks R) j
   knowRow-keep (Agent a) j e = e
@@ -134,19 +135,19 @@ module _ (ks : List ℕ) (room : length ks ≡ 128) where
   knowRow-keep (Nonce n) j e = e
   knowRow-keep (Prf s x y) j e = e
   knowRow-keep (PublicKey a) j e = know-keep (a .0) j e
-  knowRow-keep (PrivateKey a) j e = know-keep (64 + a .0) j e
+  knowRow-keep (PrivateKey a) j e = know-keep (agentLimit + a .0) j e
   knowRow-keep (SessionKey o x y z) j e = e
   knowRow-keep (Hash x) j e = e
   knowRow-keep (Crypt k x) j e = e
   knowRow-keep (Pair x y) j e = e
 
-  pub knowRow-room : (R : Row) → length (knowRow ks R) ≡ 128
+  pub knowRow-room : (R : Row) → length (knowRow ks R) ≡ keyRoom
   knowRow-room (Agent a) = room
   knowRow-room (Number n) = room
   knowRow-room (Nonce n) = room
   knowRow-room (Prf s x y) = room
   knowRow-room (PublicKey a) = know-room (a .0)
-  knowRow-room (PrivateKey a) = know-room (64 + a .0)
+  knowRow-room (PrivateKey a) = know-room (agentLimit + a .0)
   knowRow-room (SessionKey o x y z) = room
   knowRow-room (Hash x) = room
   knowRow-room (Crypt k x) = room

@@ -8,13 +8,13 @@ use mathlib.Core.Path.{_≡_, refl, sym, _∙_}
 use native.Mathlib.Omega.{arith}
 use native.Mathlib.Decide.{ℕ-discrete}
 use lib.ListN.{length}
-use Rattle.trace.specs.File.{rowsOf}
+use Rattle.trace.specs.File.{rowLimit, rowsOf}
 use Rattle.trace.specs.Rows.{choose, kindAt, rowAt}
 use Rattle.trace.specs.Promises.{Promised}
 use Rattle.trace.proofs.Both.{refuted}
 use Rattle.trace.proofs.First.{bool-cases, lt-suc}
 use Rattle.trace.proofs.Refusal.{or-false, or-false-right}
-use Rattle.closure.specs.Closure.{State, stateOf, rowMarked, bothSides, learnRow, reopens, reopenRow, upRows, downRows, passRows, settle, seeRow}
+use Rattle.closure.specs.Closure.{keyRoom, State, stateOf, rowMarked, bothSides, learnRow, reopens, reopenRow, upRows, downRows, passRows, settle, seeRow}
 use Rattle.closure.proofs.Marks.{Marked, Known}
 use Rattle.closure.proofs.Grew.{Held, Grew, grew-still, grew-then, sides-at, Closed, closed-same, learns, both-grew}
 
@@ -68,7 +68,7 @@ module _ (file : List ℕ) (P : Promised file) where
   abbrev CryptsClosed : ℕ → State → Type 0
   CryptsClosed n t = t .fresh ≡ false → (x : ℕ) → x < n → kindAt file x ≡ 8 → Closed file P (t .rows) (t .keys) x
 
-  pub reopen-grew : (rs ks : List ℕ) (r : ℕ) → length rs ≡ 1024 → length ks ≡ 128 → r < rowsOf file →
+  pub reopen-grew : (rs ks : List ℕ) (r : ℕ) → length rs ≡ rowLimit → length ks ≡ keyRoom → r < rowsOf file →
       Grew file P rs ks (reopenRow file rs ks r) ×
       (reopenRow file rs ks r .fresh ≡ false → kindAt file r ≡ 8 → Closed file P (reopenRow file rs ks r .rows) (reopenRow file rs ks r .keys) r)
   reopen-grew rs ks r rr kr l = go (bool-cases (reopens file rs r))
@@ -82,7 +82,7 @@ module _ (file : List ℕ) (P : Promised file) where
           (b .0, λ e _. closed-same file P rs ks (bothSides (learnRow file r) rs ks r (sides-at file P rs ks r)) (b .0) e r l (b .1) (b .2))
       go (inr u) = rw (u, reopenRow) (grew-still file P rs ks rr kr, λ e c m. absurd (true≢false (rw (c, m) at u)))
 
-  pub up-grew : (n : ℕ) (rs ks : List ℕ) → n ≤ rowsOf file → length rs ≡ 1024 → length ks ≡ 128 →
+  pub up-grew : (n : ℕ) (rs ks : List ℕ) → n ≤ rowsOf file → length rs ≡ rowLimit → length ks ≡ keyRoom →
       Grew file P rs ks (upRows file n rs ks) × CryptsClosed n (upRows file n rs ks)
   unfolding upRows
   up-grew zero rs ks h r k = (grew-still file P rs ks r k, λ e x l c. absurd (omega arith))
@@ -112,7 +112,7 @@ module _ (file : List ℕ) (P : Promised file) where
   down-fresh zero rs ks = refl
   down-fresh (suc n) rs ks = let s = reopenRow file rs ks n in down-fresh n (s .rows) (s .keys)
 
-  pub pass-grew : (n : ℕ) (rs ks : List ℕ) → n ≤ rowsOf file → length rs ≡ 1024 → length ks ≡ 128 →
+  pub pass-grew : (n : ℕ) (rs ks : List ℕ) → n ≤ rowsOf file → length rs ≡ rowLimit → length ks ≡ keyRoom →
       Grew file P rs ks (passRows file n rs ks) × CryptsClosed n (passRows file n rs ks)
   unfolding passRows
   pass-grew n rs ks h r k = go (bool-cases (upRows file n rs ks .fresh)) (up-grew n rs ks h r k)
@@ -128,8 +128,8 @@ module _ (file : List ℕ) (P : Promised file) where
 
   -- what settling keeps, and how it ends
   pub record Settled (rs ks : List ℕ) (t : State) : Type 0 where
-    pub room : length (t .rows) ≡ 1024
-    pub room-keys : length (t .keys) ≡ 128
+    pub room : length (t .rows) ≡ rowLimit
+    pub room-keys : length (t .keys) ≡ keyRoom
     pub rows : (x : ℕ) → Marked rs x → Marked (t .rows) x
     pub keys : (i : ℕ) → Known ks i → Known (t .keys) i
     pub held : ((x : ℕ) → x < rowsOf file → Marked rs x → Held ks (rowAt file x)) →
@@ -163,7 +163,7 @@ module _ (file : List ℕ) (P : Promised file) where
       go (no n) = st x l n
 
   settles : (d : ℕ) (rs ks : List ℕ) (s : State) → Grew file P rs ks s → Steady (s .rows) (s .keys) →
-      (s .fresh ≡ false → AllClosed (s .rows) (s .keys)) → (s .fresh ≡ true → unmarked 1024 (s .rows) < d) →
+      (s .fresh ≡ false → AllClosed (s .rows) (s .keys)) → (s .fresh ≡ true → unmarked rowLimit (s .rows) < d) →
       Settled rs ks (settle file d s) × ((x : ℕ) → Marked (s .rows) x → Marked (settle file d s .rows) x)
   unfolding settle
   settles zero rs ks s g st c less = (settled-here rs ks s g (c (refuted _ (λ e. omega (arith, less e)))), λ x m. m)
@@ -177,8 +177,8 @@ module _ (file : List ℕ) (P : Promised file) where
       (λ f. omega (arith, less e, fewer (s .rows) (p .rows) (q .0 .rows) (q .0 .new f))) .0)
     where
       fewer : (rs rs′ : List ℕ) → ((x : ℕ) → Marked rs x → Marked rs′ x) →
-          (x : ℕ) × (x < 1024) × (rowMarked rs x ≡ false) × Marked rs′ x → unmarked 1024 rs′ < unmarked 1024 rs
-      fewer rs rs′ grow (x, l, u, m) = unmarked-less rs rs′ grow 1024 x l u m
+          (x : ℕ) × (x < rowLimit) × (rowMarked rs x ≡ false) × Marked rs′ x → unmarked rowLimit rs′ < unmarked rowLimit rs
+      fewer rs rs′ grow (x, l, u, m) = unmarked-less rs rs′ grow rowLimit x l u m
 
       go : (s .fresh ≡ true) ⊎ (s .fresh ≡ false) →
           (s .fresh ≡ true → Settled (s .rows) (s .keys) (settle file d (passRows file (rowsOf file) (s .rows) (s .keys)))) →
@@ -187,14 +187,14 @@ module _ (file : List ℕ) (P : Promised file) where
       go (inr e) ih = rw (e, settle) (settled-here rs ks s g (c e), λ x m. m)
 
   -- a row is seen in a closed state: the state is closed again, and the row is marked
-  pub see-settles : (rs ks : List ℕ) (row : ℕ) → length rs ≡ 1024 → length ks ≡ 128 → row < rowsOf file → AllClosed rs ks →
+  pub see-settles : (rs ks : List ℕ) (row : ℕ) → length rs ≡ rowLimit → length ks ≡ keyRoom → row < rowsOf file → AllClosed rs ks →
       Settled rs ks (seeRow file rs ks row) × Marked (seeRow file rs ks row .rows) row
   see-settles rs ks row r k l c =
       let s = learnRow file (suc row) rs ks row in
       let g = learns file P (suc row) rs ks row r k l (omega arith) in
-      let end = settles 1024 rs ks s (g .0) (λ x lx n. g .0 .steady x n (c x lx)) (λ e x lx. g .0 .closed e x lx (c x lx)) (λ e. few (s .rows) (g .0 .rows) (g .0 .new e)) in
+      let end = settles rowLimit rs ks s (g .0) (λ x lx n. g .0 .steady x n (c x lx)) (λ e x lx. g .0 .closed e x lx (c x lx)) (λ e. few (s .rows) (g .0 .rows) (g .0 .new e)) in
       (end .0, end .1 row (g .1))
     where
       few : (rs′ : List ℕ) → ((x : ℕ) → Marked rs x → Marked rs′ x) →
-          (x : ℕ) × (x < 1024) × (rowMarked rs x ≡ false) × Marked rs′ x → unmarked 1024 rs′ < 1024
-      few rs′ grow (x, lx, u, m) = omega (arith, unmarked-less rs rs′ grow 1024 x lx u m, unmarked-most 1024 rs)
+          (x : ℕ) × (x < rowLimit) × (rowMarked rs x ≡ false) × Marked rs′ x → unmarked rowLimit rs′ < rowLimit
+      few rs′ grow (x, lx, u, m) = omega (arith, unmarked-less rs rs′ grow rowLimit x lx u m, unmarked-most rowLimit rs)

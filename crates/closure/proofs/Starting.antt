@@ -12,7 +12,7 @@ use lib.ListN.{length, length-replicate}
 use borrow.Author.Tests.{ltb-true}
 use Rattle.paper.specs.Message as paper
 use Rattle.paper.specs.Spy.{Starts, own, Spies, start, Analz, inj}
-use Rattle.trace.specs.File.{rowsOf, eventsOf, agentLimit, compromisedIn}
+use Rattle.trace.specs.File.{rowLimit, agentLimit, rowsOf, eventsOf, compromisedIn}
 use Rattle.trace.specs.Rows.{choose, rowAt}
 use Rattle.trace.specs.Events.{eventAt}
 use Rattle.trace.specs.Meaning.{message, bad, beginning}
@@ -22,7 +22,7 @@ use Rattle.trace.specs.declared.Row.{Row}
 use Rattle.trace.specs.declared.Row.the-variants.{PrivateKey}
 use Rattle.trace.proofs.First.{bool-cases, lt-suc}
 use Rattle.trace.proofs.Both.{both}
-use Rattle.closure.specs.Closure.{know, sidesOf, startKeys, keyKnown, markRow, startRows, zeros, knownAfter}
+use Rattle.closure.specs.Closure.{keyRoom, know, sidesOf, startKeys, keyKnown, markRow, startRows, zeros, knownAfter}
 use Rattle.closure.proofs.Marks.{Marked, Known, none-marked, mark-same, mark-other, mark-keep, mark-room, know-same, know-other, know-keep, know-room}
 use Rattle.closure.proofs.Grew.{Held}
 use Rattle.closure.proofs.Exact.{Good, good-event}
@@ -31,65 +31,65 @@ zeros-room : (m : ℕ) → length (zeros m) ≡ m
 zeros-room m = length-replicate {A = ℕ} m 0
 
 module _ (file : List ℕ) where
-  below-limit : (A : ℕ) → bad file A → A < 64
+  below-limit : (A : ℕ) → bad file A → A < agentLimit
   below-limit A b = ltb-true A agentLimit (both (ltb A agentLimit) _ b .0)
 
   -- keys
-  keys-room : (n : ℕ) (ks : List ℕ) → length ks ≡ 128 → length (startKeys file n ks) ≡ 128
+  keys-room : (n : ℕ) (ks : List ℕ) → length ks ≡ keyRoom → length (startKeys file n ks) ≡ keyRoom
   unfolding startKeys
   keys-room zero ks r = r
   keys-room (suc n) ks r = go (compromisedIn file n) (keys-room n ks r)
     where
-      go : (b : Bool) → length (startKeys file n ks) ≡ 128 → length (choose b (know (startKeys file n ks) (64 + n)) (startKeys file n ks)) ≡ 128
-      go true ih = know-room (startKeys file n ks) ih (64 + n)
+      go : (b : Bool) → length (startKeys file n ks) ≡ keyRoom → length (choose b (know (startKeys file n ks) (agentLimit + n)) (startKeys file n ks)) ≡ keyRoom
+      go true ih = know-room (startKeys file n ks) ih (agentLimit + n)
       go false ih = ih
 
-  one-key : (b : Bool) (ks : List ℕ) (n i : ℕ) → length ks ≡ 128 → Known ks i → Known (choose b (know ks (64 + n)) ks) i
-  one-key true ks n i r k = know-keep ks r (64 + n) i k
+  one-key : (b : Bool) (ks : List ℕ) (n i : ℕ) → length ks ≡ keyRoom → Known ks i → Known (choose b (know ks (agentLimit + n)) ks) i
+  one-key true ks n i r k = know-keep ks r (agentLimit + n) i k
   one-key false ks n i r k = k
 
-  keys-in : (n : ℕ) (ks : List ℕ) → length ks ≡ 128 → (A : ℕ) → A < n → bad file A → Known (startKeys file n ks) (64 + A)
+  keys-in : (n : ℕ) (ks : List ℕ) → length ks ≡ keyRoom → (A : ℕ) → A < n → bad file A → Known (startKeys file n ks) (agentLimit + A)
   unfolding startKeys
   keys-in zero ks r A l b = absurd (omega arith)
   keys-in (suc n) ks r A l b = go (lt-suc A n l) (λ (h : A < n). keys-in n ks r A h b)
     where
-      go : (A < n) ⊎ (A ≡ n) → (A < n → Known (startKeys file n ks) (64 + A)) →
-          Known (choose (compromisedIn file n) (know (startKeys file n ks) (64 + n)) (startKeys file n ks)) (64 + A)
-      go (inl h) ih = one-key (compromisedIn file n) (startKeys file n ks) n (64 + A) (keys-room n ks r) (ih h)
+      go : (A < n) ⊎ (A ≡ n) → (A < n → Known (startKeys file n ks) (agentLimit + A)) →
+          Known (choose (compromisedIn file n) (know (startKeys file n ks) (agentLimit + n)) (startKeys file n ks)) (agentLimit + A)
+      go (inl h) ih = one-key (compromisedIn file n) (startKeys file n ks) n (agentLimit + A) (keys-room n ks r) (ih h)
       go (inr e) ih =
           let c : compromisedIn file n ≡ true = subst (bad file) e b in
-          rw (e, c) (know-same (startKeys file n ks) (keys-room n ks r) (64 + n) (omega (arith, below-limit n c)))
+          rw (e, c) (know-same (startKeys file n ks) (keys-room n ks r) (agentLimit + n) (omega (arith, below-limit n c)))
 
   abbrev FromBad : ℕ → Type 0
-  FromBad i = (A : ℕ) × bad file A × (i ≡ 64 + A)
+  FromBad i = (A : ℕ) × bad file A × (i ≡ agentLimit + A)
 
-  keys-out : (n : ℕ) (ks : List ℕ) → length ks ≡ 128 → (i : ℕ) → Known (startKeys file n ks) i → Known ks i ⊎ FromBad i
+  keys-out : (n : ℕ) (ks : List ℕ) → length ks ≡ keyRoom → (i : ℕ) → Known (startKeys file n ks) i → Known ks i ⊎ FromBad i
   unfolding startKeys
   keys-out zero ks r i k = inl k
-  keys-out (suc n) ks r i k = go (bool-cases (compromisedIn file n)) (ℕ-discrete i (64 + n)) (λ (h : Known (startKeys file n ks) i). keys-out n ks r i h)
+  keys-out (suc n) ks r i k = go (bool-cases (compromisedIn file n)) (ℕ-discrete i (agentLimit + n)) (λ (h : Known (startKeys file n ks) i). keys-out n ks r i h)
     where
-      go : (compromisedIn file n ≡ true) ⊎ (compromisedIn file n ≡ false) → Dec (i ≡ 64 + n) →
+      go : (compromisedIn file n ≡ true) ⊎ (compromisedIn file n ≡ false) → Dec (i ≡ agentLimit + n) →
           (Known (startKeys file n ks) i → Known ks i ⊎ FromBad i) → Known ks i ⊎ FromBad i
       go (inl c) (yes q) ih = inr (n, c, q)
-      go (inl c) (no m) ih = ih (sym (know-other (startKeys file n ks) (keys-room n ks r) (64 + n) i m) ∙ rw c at k)
+      go (inl c) (no m) ih = ih (sym (know-other (startKeys file n ks) (keys-room n ks r) (agentLimit + n) i m) ∙ rw c at k)
       go (inr c) d ih = ih (rw c at k)
 
   -- rows
   module _ (ks : List ℕ) where
-    rows-room : (n : ℕ) (rs : List ℕ) → length rs ≡ 1024 → length (startRows file ks n rs) ≡ 1024
+    rows-room : (n : ℕ) (rs : List ℕ) → length rs ≡ rowLimit → length (startRows file ks n rs) ≡ rowLimit
     unfolding startRows
     rows-room zero rs r = r
     rows-room (suc n) rs r = go (keyKnown ks (rowAt file n)) (rows-room n rs r)
       where
-        go : (b : Bool) → length (startRows file ks n rs) ≡ 1024 → length (choose b (markRow (startRows file ks n rs) n) (startRows file ks n rs)) ≡ 1024
+        go : (b : Bool) → length (startRows file ks n rs) ≡ rowLimit → length (choose b (markRow (startRows file ks n rs) n) (startRows file ks n rs)) ≡ rowLimit
         go true ih = mark-room (startRows file ks n rs) ih n
         go false ih = ih
 
-    one-row : (b : Bool) (rs : List ℕ) (n x : ℕ) → length rs ≡ 1024 → Marked rs x → Marked (choose b (markRow rs n) rs) x
+    one-row : (b : Bool) (rs : List ℕ) (n x : ℕ) → length rs ≡ rowLimit → Marked rs x → Marked (choose b (markRow rs n) rs) x
     one-row true rs n x r m = mark-keep rs r n x m
     one-row false rs n x r m = m
 
-    rows-in : (n : ℕ) (rs : List ℕ) → length rs ≡ 1024 → (x : ℕ) → x < n → x < 1024 → keyKnown ks (rowAt file x) ≡ true →
+    rows-in : (n : ℕ) (rs : List ℕ) → length rs ≡ rowLimit → (x : ℕ) → x < n → x < rowLimit → keyKnown ks (rowAt file x) ≡ true →
         Marked (startRows file ks n rs) x
     unfolding startRows
     rows-in zero rs r x l f k = absurd (omega arith)
@@ -102,7 +102,7 @@ module _ (file : List ℕ) where
             let c : keyKnown ks (rowAt file n) ≡ true = subst (λ (y : ℕ). keyKnown ks (rowAt file y) ≡ true) e k in
             rw (e, c) (mark-same (startRows file ks n rs) (rows-room n rs r) n (omega arith))
 
-    rows-out : (n : ℕ) (rs : List ℕ) → length rs ≡ 1024 → (x : ℕ) → Marked (startRows file ks n rs) x →
+    rows-out : (n : ℕ) (rs : List ℕ) → length rs ≡ rowLimit → (x : ℕ) → Marked (startRows file ks n rs) x →
         Marked rs x ⊎ (keyKnown ks (rowAt file x) ≡ true)
     unfolding startRows
     rows-out zero rs r x m = inl m
@@ -118,23 +118,23 @@ module _ (file : List ℕ) where
 
 module _ (file : List ℕ) (P : Promised file) where
   abbrev ks : List ℕ
-  ks = startKeys file agentLimit (zeros 128)
+  ks = startKeys file agentLimit (zeros keyRoom)
 
   abbrev rs : List ℕ
-  rs = startRows file ks (rowsOf file) (zeros 1024)
+  rs = startRows file ks (rowsOf file) (zeros rowLimit)
 
   only-bad : (i : ℕ) → Known ks i → FromBad file i
-  only-bad i k = go (keys-out file 64 (zeros 128) (zeros-room 128) i k)
+  only-bad i k = go (keys-out file agentLimit (zeros keyRoom) (zeros-room keyRoom) i k)
     where
-      go : Known (zeros 128) i ⊎ FromBad file i → FromBad file i
-      go (inl z) = absurd (none-marked 128 i z)
+      go : Known (zeros keyRoom) i ⊎ FromBad file i → FromBad file i
+      go (inl z) = absurd (none-marked keyRoom i z)
       go (inr f) = f
 
   only-known : (x : ℕ) → Marked rs x → keyKnown ks (rowAt file x) ≡ true
-  only-known x m = go (rows-out file ks (rowsOf file) (zeros 1024) (zeros-room 1024) x m)
+  only-known x m = go (rows-out file ks (rowsOf file) (zeros rowLimit) (zeros-room rowLimit) x m)
     where
-      go : Marked (zeros 1024) x ⊎ (keyKnown ks (rowAt file x) ≡ true) → keyKnown ks (rowAt file x) ≡ true
-      go (inl z) = absurd (none-marked 1024 x z)
+      go : Marked (zeros rowLimit) x ⊎ (keyKnown ks (rowAt file x) ≡ true) → keyKnown ks (rowAt file x) ≡ true
+      go (inl z) = absurd (none-marked rowLimit x z)
       go (inr k) = k
 
   abbrev H : paper.msg → Type 0
@@ -149,9 +149,9 @@ module _ (file : List ℕ) (P : Promised file) where
     where
       low : ¬ FromBad file (a .0)
       low (B, b, e) = omega arith
-  known-row x R (privateKey {a = a} l) k = of-bad (same (only-bad (64 + a .0) k))
+  known-row x R (privateKey {a = a} l) k = of-bad (same (only-bad (agentLimit + a .0) k))
     where
-      same : FromBad file (64 + a .0) → bad file (a .0)
+      same : FromBad file (agentLimit + a .0) → bad file (a .0)
       same (B, b, e) =
           let f : B ≡ a .0 = omega arith in
           subst (bad file) f b
@@ -167,8 +167,8 @@ module _ (file : List ℕ) (P : Promised file) where
   marked-row : (x : ℕ) → x < rowsOf file → Marked rs x → OfBad (rowAt file x)
   marked-row x l m = known-row x (rowAt file x) (P .keeps x l) (only-known x m)
 
-  bad-known : (A : ℕ) → bad file A → Known ks (64 + A)
-  bad-known A b = keys-in file 64 (zeros 128) (zeros-room 128) A (below-limit file A b) b
+  bad-known : (A : ℕ) → bad file A → Known ks (agentLimit + A)
+  bad-known A b = keys-in file agentLimit (zeros keyRoom) (zeros-room keyRoom) A (below-limit file A b) b
 
   row-sound : {R : Row} {X : paper.msg} → Unfolds (message file) R X → OfBad R → Analz H X
   row-sound (asPrivate q) (of-bad b) = inj (start (own (rw q at b)))
@@ -184,10 +184,10 @@ module _ (file : List ℕ) (P : Promised file) where
   row-known : {R : Row} {A : ℕ} → bad file A → Unfolds (message file) R (paper.Key (paper.priK A)) → keyKnown ks R ≡ true
   row-known {A = A} b (asPrivate q) = rw q (bad-known A b)
 
-  none-public : (a : ℕ) → a < 64 → ¬ FromBad file a
+  none-public : (a : ℕ) → a < agentLimit → ¬ FromBad file a
   none-public a l (B, b, e) = omega arith
 
-  private-sound : (a : ℕ) → FromBad file (64 + a) → Analz H (paper.Key (paper.priK a))
+  private-sound : (a : ℕ) → FromBad file (agentLimit + a) → Analz H (paper.Key (paper.priK a))
   private-sound a (B, b, e) =
       let f : B ≡ a = omega arith in
       inj (start (own (subst (bad file) f b)))
@@ -198,18 +198,18 @@ module _ (file : List ℕ) (P : Promised file) where
   pub good-start : Good file P [] rs ks
   good-start =
       record {
-        room = rows-room file ks (rowsOf file) (zeros 1024) (zeros-room 1024);
-        room-keys = keys-room file 64 (zeros 128) (zeros-room 128);
+        room = rows-room file ks (rowsOf file) (zeros rowLimit) (zeros-room rowLimit);
+        room-keys = keys-room file agentLimit (zeros keyRoom) (zeros-room keyRoom);
         sound = record {
           rows = λ x l m. row-sound (P .unfolds x l) (marked-row x l m);
           pubs = λ a l k. absurd (none-public a l (only-bad a k));
-          pris = λ a l k. private-sound a (only-bad (64 + a) k);
+          pris = λ a l k. private-sound a (only-bad (agentLimit + a) k);
         };
         closed = λ x l m. row-closed x (marked-row x l m);
         held = λ x l m. row-held (marked-row x l m);
         keys = bad-known;
         rows = λ x A l b q.
-            rows-in file ks (rowsOf file) (zeros 1024) (zeros-room 1024) x l (omega (arith, P .few-rows)) (row-known b (rw q at (P .unfolds x l)));
+            rows-in file ks (rowsOf file) (zeros rowLimit) (zeros-room rowLimit) x l (omega (arith, P .few-rows)) (row-known b (rw q at (P .unfolds x l)));
         seen = λ X h. inl (only-starts h);
       }
 

@@ -1,11 +1,11 @@
 -- Closing, as the code does it: document 01, "What the spy sees". Marks are 1; public keys stand at 0 to 63, private ones at 64 to 127.
-use Prim.Native.Nat.{ℕ, zero, suc, _+_}
+use Prim.Native.Nat.{ℕ, zero, suc, _+_, _*_}
 use mathlib.Core.Bool.{Bool, true, false, _&&_, _||_}
 use mathlib.Core.List.{List}
 use mathlib.Core.Path.{_≡_}
 use lib.Dec.{eqb, ltb, leb}
 use lib.ListN.{getD, set, replicate}
-use Rattle.trace.specs.File.{rowsOf, agentLimit, compromisedIn}
+use Rattle.trace.specs.File.{rowLimit, agentLimit, rowsOf, compromisedIn}
 use Rattle.trace.specs.Rows.{choose, kindAt, rowAt}
 use Rattle.trace.specs.Events.{eventAt}
 use Rattle.trace.specs.declared.Event.{Event}
@@ -23,14 +23,18 @@ pub record State : Type 0 where
 abbrev pub stateOf : (rows keys : List ℕ) → Bool → State
 stateOf rows keys fresh = record { rows = rows; keys = keys; fresh = fresh }
 
+-- a public key and a private one for each agent
+abbrev pub keyRoom : ℕ
+keyRoom = 2 * agentLimit
+
 abbrev pub rowMarked : List ℕ → ℕ → Bool
-rowMarked rows r = ltb r 1024 && eqb (getD rows r 0) 1
+rowMarked rows r = ltb r rowLimit && eqb (getD rows r 0) 1
 
 abbrev pub keyMarked : List ℕ → ℕ → Bool
-keyMarked keys i = ltb i 128 && eqb (getD keys i 0) 1
+keyMarked keys i = ltb i keyRoom && eqb (getD keys i 0) 1
 
 abbrev pub know : List ℕ → ℕ → List ℕ
-know keys i = choose (ltb i 128) (set keys i 1) keys
+know keys i = choose (ltb i keyRoom) (set keys i 1) keys
 
 -- the inverse of the key in row k is known
 abbrev pub opensRow : (rows keys : List ℕ) → ℕ → Row → Bool
@@ -38,7 +42,7 @@ opensRow rows keys k (Agent a) = false
 opensRow rows keys k (Number n) = false
 opensRow rows keys k (Nonce n) = false
 opensRow rows keys k (Prf s x y) = false
-opensRow rows keys k (PublicKey a) = keyMarked keys (64 + a .0)
+opensRow rows keys k (PublicKey a) = keyMarked keys (agentLimit + a .0)
 opensRow rows keys k (PrivateKey a) = keyMarked keys (a .0)
 opensRow rows keys k (SessionKey o x y z) = rowMarked rows k
 opensRow rows keys k (Hash x) = false
@@ -55,7 +59,7 @@ knowRow keys (Number n) = keys
 knowRow keys (Nonce n) = keys
 knowRow keys (Prf s x y) = keys
 knowRow keys (PublicKey a) = know keys (a .0)
-knowRow keys (PrivateKey a) = know keys (64 + a .0)
+knowRow keys (PrivateKey a) = know keys (agentLimit + a .0)
 knowRow keys (SessionKey o x y z) = keys
 knowRow keys (Hash x) = keys
 knowRow keys (Crypt k x) = keys
@@ -96,7 +100,7 @@ learnWith go rows keys row sides kind =
 unfoldable pub learnRow : List ℕ → ℕ → (rows keys : List ℕ) → ℕ → State
 learnRow file zero rows keys row = stateOf rows keys false
 learnRow file (suc d) rows keys row =
-    elim (rowMarked rows row || leb 1024 row) [
+    elim (rowMarked rows row || leb rowLimit row) [
       | true ↦ stateOf rows keys false
       | false ↦
           learnWith (λ rs ks x. learnRow file d rs ks x) rows keys row (sidesOf file rows keys row (rowAt file row)) (rowAt file row)
@@ -142,7 +146,7 @@ settle file (suc d) s = elim (s .fresh) [ true ↦ settle file d (passRows file 
 
 -- a row is seen: it is learnt, and the state is closed again
 abbrev pub seeRow : List ℕ → (rows keys : List ℕ) → ℕ → State
-seeRow file rows keys row = settle file 1024 (learnRow file (suc row) rows keys row)
+seeRow file rows keys row = settle file rowLimit (learnRow file (suc row) rows keys row)
 
 abbrev pub seeEvent : List ℕ → (rows keys : List ℕ) → Event → State
 seeEvent file rows keys (Says a b r) = seeRow file rows keys (r .0)
@@ -152,7 +156,7 @@ seeEvent file rows keys (Notes a r) =
 -- the starting knowledge: keys first, then the rows that hold them
 unfoldable pub startKeys : List ℕ → ℕ → List ℕ → List ℕ
 startKeys file zero keys = keys
-startKeys file (suc a) keys = choose (compromisedIn file a) (know (startKeys file a keys) (64 + a)) (startKeys file a keys)
+startKeys file (suc a) keys = choose (compromisedIn file a) (know (startKeys file a keys) (agentLimit + a)) (startKeys file a keys)
 
 abbrev pub keyKnown : List ℕ → Row → Bool
 keyKnown keys (Agent a) = false
@@ -160,14 +164,14 @@ keyKnown keys (Number n) = false
 keyKnown keys (Nonce n) = false
 keyKnown keys (Prf s x y) = false
 keyKnown keys (PublicKey a) = keyMarked keys (a .0)
-keyKnown keys (PrivateKey a) = keyMarked keys (64 + a .0)
+keyKnown keys (PrivateKey a) = keyMarked keys (agentLimit + a .0)
 keyKnown keys (SessionKey o x y z) = false
 keyKnown keys (Hash x) = false
 keyKnown keys (Crypt k x) = false
 keyKnown keys (Pair x y) = false
 
 abbrev pub markRow : List ℕ → ℕ → List ℕ
-markRow rows r = choose (ltb r 1024) (set rows r 1) rows
+markRow rows r = choose (ltb r rowLimit) (set rows r 1) rows
 
 unfoldable pub startRows : List ℕ → List ℕ → ℕ → List ℕ → List ℕ
 startRows file keys zero rows = rows
@@ -180,6 +184,6 @@ zeros n = replicate n 0
 -- what is known after the first n events
 unfoldable pub knownAfter : List ℕ → ℕ → State
 knownAfter file zero =
-    let keys = startKeys file agentLimit (zeros 128) in
-    stateOf (startRows file keys (rowsOf file) (zeros 1024)) keys false
+    let keys = startKeys file agentLimit (zeros keyRoom) in
+    stateOf (startRows file keys (rowsOf file) (zeros rowLimit)) keys false
 knownAfter file (suc n) = let s = knownAfter file n in seeEvent file (s .rows) (s .keys) (eventAt file n)

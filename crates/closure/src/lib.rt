@@ -6,23 +6,26 @@ use trace::AgentNo;
 use trace::Event;
 use trace::EventNo;
 use trace::RowNo;
+use trace::limits::AGENT_LIMIT;
+use trace::limits::AGENTS;
+use trace::limits::ROW_LIMIT;
+use trace::limits::ROWS;
 use trace::rows::fields_at;
 use trace::rows::kind_at;
 ghost use mathlib.Core.Bool.{true};
 ghost use mathlib.Core.Path.{_≡_};
 ghost use Prim.Native.Nat.{suc, _+_, _<_, _≤_};
-ghost use Rattle.trace.specs.File.{rowsOf, compromisedIn};
+ghost use Rattle.trace.specs.File.{rowLimit, agentLimit, rowsOf, compromisedIn};
 ghost use Rattle.trace.specs.Rows.{choose, rowAt};
 ghost use Rattle.trace.specs.Events.{eventAt};
 ghost use Rattle.closure.specs.Closure.{stateOf, rowMarked, keyMarked, know, knowRow, opens, noSides, sidesOf, below, learnRow, reopenRow, upRows, downRows, passRows, Reaches, seeRow, seeEvent, startKeys, keyKnown, markRow, startRows};
 
-const ROWS: u16 = 1024;
-
-const KEYS: usize = 128;
+// A public key and a private one for each agent.
+pub const KEYS: usize = 2 * AGENT_LIMIT;
 
 const PUBLIC: usize = 0;
 
-const PRIVATE: usize = 64;
+const PRIVATE: usize = AGENT_LIMIT;
 
 // The kinds of rows that are or hold keys, or open; a kind above 9 reads as a Pair.
 const PUBLIC_KEY: u16 = 4;
@@ -35,7 +38,7 @@ const CRYPT: u16 = 8;
 
 const PAIR: u16 = 9;
 
-pub fn row_marked(rows: &[u8; 1024], r: u16) -> bool
+pub fn row_marked(rows: &[u8; ROW_LIMIT], r: u16) -> bool
     ensures { λ b. ⌜ b ≡ rowMarked (now (rows .entry)) r ⌝ }
 {
     if r < ROWS {
@@ -45,14 +48,14 @@ pub fn row_marked(rows: &[u8; 1024], r: u16) -> bool
     }
 }
 
-fn key_marked(keys: &[u8; 128], at: usize) -> bool
+fn key_marked(keys: &[u8; KEYS], at: usize) -> bool
     ensures { λ b. ⌜ b ≡ keyMarked (now (keys .entry)) at ⌝ }
 {
     if at < KEYS { keys[at] == 1 } else { false }
 }
 
 // Whether the inverse of the key in row k is known.
-fn opens_with(file: &[u8], rows: &[u8; 1024], keys: &[u8; 128], k: RowNo) -> bool
+fn opens_with(file: &[u8], rows: &[u8; ROW_LIMIT], keys: &[u8; KEYS], k: RowNo) -> bool
     ensures { λ b. ⌜ b ≡ opens (now (file .entry)) (now (rows .entry)) (now (keys .entry)) (k .0) ⌝ }
 {
     let key = fields_at(file, k.0);
@@ -68,7 +71,7 @@ fn opens_with(file: &[u8], rows: &[u8; 1024], keys: &[u8; 128], k: RowNo) -> boo
     false
 }
 
-fn know_key(keys: &mut [u8; 128], at: usize)
+fn know_key(keys: &mut [u8; KEYS], at: usize)
     ensures { λ _. ⌜ now (keys .exit) ≡ know (now (keys .entry)) at ⌝ }
 {
     if at < KEYS {
@@ -83,7 +86,7 @@ struct Sides {
     key: bool,
 }
 
-fn sides_of(file: &[u8], rows: &[u8; 1024], keys: &[u8; 128], row: u16) -> Sides
+fn sides_of(file: &[u8], rows: &[u8; ROW_LIMIT], keys: &[u8; KEYS], row: u16) -> Sides
     ensures { λ s. ⌜ s ≡ sidesOf (now (file .entry)) (now (rows .entry)) (now (keys .entry)) row (rowAt (now (file .entry)) row) ⌝ }
 {
     let f = fields_at(file, row);
@@ -119,7 +122,7 @@ fn no_sides(row: u16, key: bool) -> Sides
 }
 
 // A public or a private key that is learnt becomes known.
-fn know_row(file: &[u8], keys: &mut [u8; 128], row: u16)
+fn know_row(file: &[u8], keys: &mut [u8; KEYS], row: u16)
     ensures { λ _. ⌜ now (keys .exit) ≡ knowRow (now (keys .entry)) (rowAt (now (file .entry)) row) ⌝ }
 {
     let f = fields_at(file, row);
@@ -134,7 +137,7 @@ fn know_row(file: &[u8], keys: &mut [u8; 128], row: u16)
 
 // Learns a row, and all that opens below it with the keys that are known by then. Tells whether a
 // key became known. A row that is marked was opened before, so shared rows are walked once.
-fn learn(file: &[u8], rows: &mut [u8; 1024], keys: &mut [u8; 128], row: u16) -> bool
+fn learn(file: &[u8], rows: &mut [u8; ROW_LIMIT], keys: &mut [u8; KEYS], row: u16) -> bool
     ensures { λ f. ⌜ stateOf (now (rows .exit)) (now (keys .exit)) f ≡
         learnRow (now (file .entry)) (suc row) (now (rows .entry)) (now (keys .entry)) row ⌝ }
 {
@@ -153,7 +156,13 @@ fn learn(file: &[u8], rows: &mut [u8; 1024], keys: &mut [u8; 128], row: u16) -> 
     left | right | sides.key
 }
 
-fn learn_below(file: &[u8], rows: &mut [u8; 1024], keys: &mut [u8; 128], row: u16, x: u16) -> bool
+fn learn_below(
+    file: &[u8],
+    rows: &mut [u8; ROW_LIMIT],
+    keys: &mut [u8; KEYS],
+    row: u16,
+    x: u16,
+) -> bool
     ensures { λ f. ⌜ stateOf (now (rows .exit)) (now (keys .exit)) f ≡
         below (learnRow (now (file .entry)) row) (now (rows .entry)) (now (keys .entry)) row x ⌝ }
 {
@@ -166,8 +175,8 @@ fn learn_below(file: &[u8], rows: &mut [u8; 1024], keys: &mut [u8; 128], row: u1
 
 // Opens a marked Crypt again, with the keys that are known by now. All else was open when it was marked,
 // and the kind is one byte, so most rows of a pass end there.
-fn reopen(file: &[u8], rows: &mut [u8; 1024], keys: &mut [u8; 128], r: u16) -> bool
-    requires { ⌜ r < 1024 ⌝ }
+fn reopen(file: &[u8], rows: &mut [u8; ROW_LIMIT], keys: &mut [u8; KEYS], r: u16) -> bool
+    requires { ⌜ r < rowLimit ⌝ }
     ensures { λ f. ⌜ stateOf (now (rows .exit)) (now (keys .exit)) f ≡
         reopenRow (now (file .entry)) (now (rows .entry)) (now (keys .entry)) r ⌝ }
 {
@@ -191,8 +200,8 @@ fn reopen(file: &[u8], rows: &mut [u8; 1024], keys: &mut [u8; 128], r: u16) -> b
 }
 
 // From the lowest row up; tells whether a key became known.
-fn pass_up(file: &[u8], rows: &mut [u8; 1024], keys: &mut [u8; 128], n: u16) -> bool
-    requires { ⌜ n ≤ 1024 ⌝ }
+fn pass_up(file: &[u8], rows: &mut [u8; ROW_LIMIT], keys: &mut [u8; KEYS], n: u16) -> bool
+    requires { ⌜ n ≤ rowLimit ⌝ }
     ensures { λ f. ⌜ stateOf (now (rows .exit)) (now (keys .exit)) f ≡
         upRows (now (file .entry)) n (now (rows .entry)) (now (keys .entry)) ⌝ }
 {
@@ -209,8 +218,8 @@ fn pass_up(file: &[u8], rows: &mut [u8; 1024], keys: &mut [u8; 128], n: u16) -> 
 }
 
 // From the highest row down, where a key became known on the way up.
-fn pass_down(file: &[u8], rows: &mut [u8; 1024], keys: &mut [u8; 128], n: u16)
-    requires { ⌜ n ≤ 1024 ⌝ }
+fn pass_down(file: &[u8], rows: &mut [u8; ROW_LIMIT], keys: &mut [u8; KEYS], n: u16)
+    requires { ⌜ n ≤ rowLimit ⌝ }
     ensures { λ _. ⌜ stateOf (now (rows .exit)) (now (keys .exit)) true ≡
         downRows (now (file .entry)) n (now (rows .entry)) (now (keys .entry)) ⌝ }
 {
@@ -223,7 +232,7 @@ fn pass_down(file: &[u8], rows: &mut [u8; 1024], keys: &mut [u8; 128], n: u16)
 
 // The rows that a pass looks at: one past the marks is never known, and a file that was read has none.
 fn reach(file: &[u8]) -> u16
-    ensures { λ n. ⌜ n ≤ 1024 ⌝ }
+    ensures { λ n. ⌜ n ≤ rowLimit ⌝ }
     ensures { λ n. ⌜ Reaches (now (file .entry)) n ⌝ }
 {
     let n = trace::row_count(file);
@@ -232,7 +241,7 @@ fn reach(file: &[u8]) -> u16
 
 // One pass over the rows, up, and down if that found a key: a chain of keys opens at once in either
 // order. Going up without a new key leaves nothing to open.
-fn pass(file: &[u8], rows: &mut [u8; 1024], keys: &mut [u8; 128]) -> bool
+fn pass(file: &[u8], rows: &mut [u8; ROW_LIMIT], keys: &mut [u8; KEYS]) -> bool
     ensures { λ f. ⌜ stateOf (now (rows .exit)) (now (keys .exit)) f ≡
         passRows (now (file .entry)) (rowsOf (now (file .entry))) (now (rows .entry)) (now (keys .entry)) ⌝ }
 {
@@ -247,7 +256,7 @@ fn pass(file: &[u8], rows: &mut [u8; 1024], keys: &mut [u8; 128]) -> bool
 }
 
 // A row is seen. A pass that finds a key marks its row, so there are at most as many passes as rows.
-fn see(file: &[u8], rows: &mut [u8; 1024], keys: &mut [u8; 128], row: u16)
+fn see(file: &[u8], rows: &mut [u8; ROW_LIMIT], keys: &mut [u8; KEYS], row: u16)
     ensures { λ _. ⌜ now (rows .exit) ≡ seeRow (now (file .entry)) (now (rows .entry)) (now (keys .entry)) row .rows ⌝ }
     ensures { λ _. ⌜ now (keys .exit) ≡ seeRow (now (file .entry)) (now (rows .entry)) (now (keys .entry)) row .keys ⌝ }
 {
@@ -263,7 +272,7 @@ fn see(file: &[u8], rows: &mut [u8; 1024], keys: &mut [u8; 128], row: u16)
 }
 
 // An event is seen if it is a Says, or a Notes of a compromised agent.
-pub fn see_event(file: &[u8], rows: &mut [u8; 1024], keys: &mut [u8; 128], e: EventNo)
+pub fn see_event(file: &[u8], rows: &mut [u8; ROW_LIMIT], keys: &mut [u8; KEYS], e: EventNo)
     ensures { λ _. ⌜ now (rows .exit) ≡
         seeEvent (now (file .entry)) (now (rows .entry)) (now (keys .entry)) (eventAt (now (file .entry)) (e .0)) .rows ⌝ }
     ensures { λ _. ⌜ now (keys .exit) ≡
@@ -281,9 +290,9 @@ pub fn see_event(file: &[u8], rows: &mut [u8; 1024], keys: &mut [u8; 128], e: Ev
     }
 }
 
-fn start_key(file: &[u8], keys: &mut [u8; 128], agent: u16)
+fn start_key(file: &[u8], keys: &mut [u8; KEYS], agent: u16)
     ensures { λ _. ⌜ now (keys .exit) ≡
-        choose (compromisedIn (now (file .entry)) agent) (know (now (keys .entry)) (64 + agent)) (now (keys .entry)) ⌝ }
+        choose (compromisedIn (now (file .entry)) agent) (know (now (keys .entry)) (agentLimit + agent)) (now (keys .entry)) ⌝ }
 {
     let bad = trace::compromised(file, AgentNo(agent));
     if bad {
@@ -291,18 +300,18 @@ fn start_key(file: &[u8], keys: &mut [u8; 128], agent: u16)
     }
 }
 
-fn start_keys(file: &[u8], keys: &mut [u8; 128])
-    ensures { λ _. ⌜ now (keys .exit) ≡ startKeys (now (file .entry)) 64 (now (keys .entry)) ⌝ }
+fn start_keys(file: &[u8], keys: &mut [u8; KEYS])
+    ensures { λ _. ⌜ now (keys .exit) ≡ startKeys (now (file .entry)) agentLimit (now (keys .entry)) ⌝ }
 {
     let mut agent: u16 = 0;
-    while agent < 64 {
+    while agent < AGENTS {
         start_key(file, keys, agent);
         agent += 1;
     }
 }
 
 // Whether the row holds a key that is known.
-fn key_known(file: &[u8], keys: &[u8; 128], r: u16) -> bool
+fn key_known(file: &[u8], keys: &[u8; KEYS], r: u16) -> bool
     ensures { λ b. ⌜ b ≡ keyKnown (now (keys .entry)) (rowAt (now (file .entry)) r) ⌝ }
 {
     let f = fields_at(file, r);
@@ -315,7 +324,7 @@ fn key_known(file: &[u8], keys: &[u8; 128], r: u16) -> bool
     false
 }
 
-fn start_row(file: &[u8], rows: &mut [u8; 1024], keys: &[u8; 128], r: u16)
+fn start_row(file: &[u8], rows: &mut [u8; ROW_LIMIT], keys: &[u8; KEYS], r: u16)
     ensures { λ _. ⌜ now (rows .exit) ≡
         choose (keyKnown (now (keys .entry)) (rowAt (now (file .entry)) r)) (markRow (now (rows .entry)) r) (now (rows .entry)) ⌝ }
 {
@@ -327,7 +336,7 @@ fn start_row(file: &[u8], rows: &mut [u8; 1024], keys: &[u8; 128], r: u16)
     }
 }
 
-fn start_rows(file: &[u8], rows: &mut [u8; 1024], keys: &[u8; 128], n: u16)
+fn start_rows(file: &[u8], rows: &mut [u8; ROW_LIMIT], keys: &[u8; KEYS], n: u16)
     ensures { λ _. ⌜ now (rows .exit) ≡ startRows (now (file .entry)) (now (keys .entry)) n (now (rows .entry)) ⌝ }
 {
     let mut r: u16 = 0;
@@ -338,10 +347,10 @@ fn start_rows(file: &[u8], rows: &mut [u8; 1024], keys: &[u8; 128], n: u16)
 }
 
 // The starting knowledge, in arrays of zeros.
-pub fn start(file: &[u8], rows: &mut [u8; 1024], keys: &mut [u8; 128])
-    ensures { λ _. ⌜ now (keys .exit) ≡ startKeys (now (file .entry)) 64 (now (keys .entry)) ⌝ }
+pub fn start(file: &[u8], rows: &mut [u8; ROW_LIMIT], keys: &mut [u8; KEYS])
+    ensures { λ _. ⌜ now (keys .exit) ≡ startKeys (now (file .entry)) agentLimit (now (keys .entry)) ⌝ }
     ensures { λ _. ⌜ now (rows .exit) ≡
-        startRows (now (file .entry)) (startKeys (now (file .entry)) 64 (now (keys .entry))) (rowsOf (now (file .entry))) (now (rows .entry)) ⌝ }
+        startRows (now (file .entry)) (startKeys (now (file .entry)) agentLimit (now (keys .entry))) (rowsOf (now (file .entry))) (now (rows .entry)) ⌝ }
 {
     start_keys(file, keys);
     start_rows(file, rows, keys, trace::row_count(file));

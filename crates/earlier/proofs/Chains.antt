@@ -1,6 +1,6 @@
 -- Chains of events: what is found on one, what can be reached on it, and that it ends.
 -- Assumes nothing.
-use Prim.Native.Nat.{ℕ, zero, suc, _-_, _<_, _≤_}
+use Prim.Native.Nat.{ℕ, zero, suc, _+_, _-_, _<_, _≤_}
 use mathlib.Core.Bool.{Bool, true, false, _&&_, _||_, true≢false}
 use mathlib.Core.List.{List, [], _∷_}
 use mathlib.Core.Logic.{_⊎_, inl, inr}
@@ -9,6 +9,7 @@ use native.Mathlib.Omega.{arith}
 use native.Mathlib.Decide.{decLt}
 use lib.Dec.{ltb}
 use borrow.Author.Tests.{lt-ltb, le-ltb}
+use Rattle.trace.specs.File.{eventLimit}
 use Rattle.trace.specs.Rows.{choose}
 use Rattle.trace.proofs.Both.{or-true}
 use Rattle.trace.proofs.First.{bool-cases}
@@ -22,7 +23,7 @@ pub data Below (e : ℕ) : List ℕ → Type 0 where
 
 module _ (boxes : List ℕ) where
   pub next-falls : (link : ℕ) → 0 < link → next boxes link < link
-  next-falls link p = go (ltb link 513 && ltb 0 link) (decLt (behind boxes (link - 1)) link)
+  next-falls link p = go (ltb link (eventLimit + 1) && ltb 0 link) (decLt (behind boxes (link - 1)) link)
     where
       go : (there : Bool) → Dec (behind boxes (link - 1) < link) →
           choose there (choose (ltb (behind boxes (link - 1)) link) (behind boxes (link - 1)) 0) 0 < link
@@ -110,12 +111,12 @@ module _ (boxes : List ℕ) where
     some-below link t = some-in link link t
 
     -- what can be reached is found
-    module _ (falls : (j : ℕ) → j < 512 → behind boxes j ≤ j) where
-      next-behind : (link : ℕ) → 0 < link → link ≤ 512 → next boxes link ≡ behind boxes (link - 1)
+    module _ (falls : (j : ℕ) → j < eventLimit → behind boxes j ≤ j) where
+      next-behind : (link : ℕ) → 0 < link → link ≤ eventLimit → next boxes link ≡ behind boxes (link - 1)
       next-behind link l m =
-          rw (lt-ltb link 513 (omega arith), lt-ltb 0 link l, lt-ltb (behind boxes (link - 1)) link (omega (arith, falls (link - 1) (omega arith)))) refl
+          rw (lt-ltb link (eventLimit + 1) (omega arith), lt-ltb 0 link l, lt-ltb (behind boxes (link - 1)) link (omega (arith, falls (link - 1) (omega arith)))) refl
 
-      pub some-reach : (link s : ℕ) → link ≤ 512 → p s ≡ true → Reach boxes link s → some p (chainFrom boxes link) ≡ true
+      pub some-reach : (link s : ℕ) → link ≤ eventLimit → p s ≡ true → Reach boxes link s → some p (chainFrom boxes link) ≡ true
       some-reach link s m t (here q) =
           let q′ : link - 1 ≡ s = omega arith in
           some-step link (omega arith) ∙ rw (q′, t) refl

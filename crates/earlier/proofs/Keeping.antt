@@ -13,6 +13,7 @@ use lib.Dec.{eqb, ltb}
 use lib.ListN.{getD, set, length, length-set, replicate, length-replicate}
 use lib.Seq.{getD-set-same, getD-set-other}
 use borrow.Author.Tests.{eqb-true, lt-ltb, ltb-true}
+use Rattle.trace.specs.File.{eventLimit, agentLimit}
 use Rattle.trace.specs.Rows.{choose}
 use Rattle.trace.proofs.First.{lt-suc, bool-cases}
 use Rattle.trace.proofs.Both.{both3, both4}
@@ -21,16 +22,16 @@ use Rattle.earlier.specs.declared.Heard.{Heard}
 use Rattle.earlier.specs.declared.cards.Card.{Card}
 use Rattle.earlier.specs.Earlier.{heardAt, sameHeard}
 use Rattle.earlier.specs.Cards.{cardWith, cardOf}
-use Rattle.earlier.specs.Boxes.{boxOf, behind, cardAt}
+use Rattle.earlier.specs.Boxes.{notesAt, boxCount, linksAt, slotCount, slotsAt, clientsAt, serversAt, cardsAt, cardSize, boxRoom, boxOf, behind, cardAt}
 use Rattle.earlier.specs.Kept.{slotOf, isAgain, sealMark, sealAt, boxedIn, sealedIn, cardedIn, keptIn, Reach, here, further, Linked, Boxed}
 
 -- every box is one of the 128
-pub box-room : (h : Heard) → boxOf h < 128
+pub box-room : (h : Heard) → boxOf h < boxCount
 box-room h = go (h .says)
   where
-    go : (b : Bool) → choose b (h .to % 64) (64 + h .from % 64) < 128
-    go true = let m : h .to % 64 < 64 = mod-lt (h .to) (omega arith) in omega (arith, m)
-    go false = let m : h .from % 64 < 64 = mod-lt (h .from) (omega arith) in omega (arith, m)
+    go : (b : Bool) → choose b (h .to % agentLimit) (notesAt + h .from % agentLimit) < boxCount
+    go true = let m : h .to % agentLimit < agentLimit = mod-lt (h .to) (omega arith) in omega (arith, m)
+    go false = let m : h .from % agentLimit < agentLimit = mod-lt (h .from) (omega arith) in omega (arith, m)
 
 both-or-none : (a b : Bool) → ((a && b) || (not a && not b)) ≡ true → a ≡ b
 both-or-none true true t = refl
@@ -48,21 +49,21 @@ same-heard h g t =
     let pr : h .row ≡ g .row = eqb-true _ _ (x .3) in
     λ i. record { says = ps i; from = pf i; to = pt i; row = pr i }
 
-none-linked : (file : List ℕ) → Linked file (replicate 5248 0) 0
+none-linked : (file : List ℕ) → Linked file (replicate boxRoom 0) 0
 none-linked file =
     record {
-      room = length-replicate {A = ℕ} 5248 0;
+      room = length-replicate {A = ℕ} boxRoom 0;
       few = omega arith;
-      falls = λ e l. rw (zeros 5248 (128 + e)) (omega arith);
-      low = λ b l. rw (zeros 5248 b) (omega arith);
+      falls = λ e l. rw (zeros boxRoom (linksAt + e)) (omega arith);
+      low = λ b l. rw (zeros boxRoom b) (omega arith);
       kept = λ j l. absurd (omega arith);
     }
 
-pub none-boxed : (file : List ℕ) → Boxed file (replicate 5248 0) 0
+pub none-boxed : (file : List ℕ) → Boxed file (replicate boxRoom 0) 0
 none-boxed file = record { links = none-linked file; seals = λ server j l. absurd (omega arith); cards = λ j l. absurd (omega arith) }
 
 -- event e, with those before it in their boxes
-module _ (file boxes : List ℕ) (e : ℕ) (x : Linked file boxes e) (few : e < 512) where
+module _ (file boxes : List ℕ) (e : ℕ) (x : Linked file boxes e) (few : e < eventLimit) where
   abbrev b : ℕ
   b = boxOf (heardAt file e)
 
@@ -73,11 +74,11 @@ module _ (file boxes : List ℕ) (e : ℕ) (x : Linked file boxes e) (few : e < 
   head-low = x .low b (box-room (heardAt file e))
 
   abbrev slot : ℕ
-  slot = 640 + slotOf (heardAt file e)
+  slot = slotsAt + slotOf (heardAt file e)
 
-  slot-room : slot < 1664
+  slot-room : slot < clientsAt
   slot-room =
-      let m : slotOf (heardAt file e) < 1024 = mod-lt _ (omega arith) in
+      let m : slotOf (heardAt file e) < slotCount = mod-lt _ (omega arith) in
       omega (arith, m)
 
   kept-same : (s : ℕ) → s < e → heardAt file s ≡ heardAt file e → (t : ℕ) × Reach boxes head t × (heardAt file t ≡ heardAt file e)
@@ -113,7 +114,7 @@ module _ (file boxes : List ℕ) (e : ℕ) (x : Linked file boxes e) (few : e < 
 
   -- it is put in front of its box
   abbrev longer : List ℕ
-  longer = set boxes (128 + e) head
+  longer = set boxes (linksAt + e) head
 
   abbrev headed : List ℕ
   headed = set longer b (e + 1)
@@ -122,33 +123,33 @@ module _ (file boxes : List ℕ) (e : ℕ) (x : Linked file boxes e) (few : e < 
   boxes′ = set headed slot (e + 1)
 
   -- the slots lie behind
-  unslotted : (k : ℕ) → k < 640 → getD boxes′ k 0 ≡ getD headed k 0
+  unslotted : (k : ℕ) → k < slotsAt → getD boxes′ k 0 ≡ getD headed k 0
   unslotted k l = getD-set-other headed slot k (e + 1) 0 (λ q. omega arith)
 
   new-head : getD boxes′ b 0 ≡ suc e
   new-head =
       unslotted b (omega (arith, box-room (heardAt file e))) ∙
-      getD-set-same longer b (e + 1) 0 (omega (arith, box-room (heardAt file e), length-set boxes (128 + e) head, x .room)) ∙ add-one e
+      getD-set-same longer b (e + 1) 0 (omega (arith, box-room (heardAt file e), length-set boxes (linksAt + e) head, x .room)) ∙ add-one e
 
-  other-head : (k : ℕ) → k < 128 → ¬ (k ≡ b) → getD boxes′ k 0 ≡ getD boxes k 0
+  other-head : (k : ℕ) → k < boxCount → ¬ (k ≡ b) → getD boxes′ k 0 ≡ getD boxes k 0
   other-head k l n =
-      unslotted k (omega arith) ∙ getD-set-other longer b k (e + 1) 0 n ∙ getD-set-other boxes (128 + e) k head 0 (λ q. omega arith)
+      unslotted k (omega arith) ∙ getD-set-other longer b k (e + 1) 0 n ∙ getD-set-other boxes (linksAt + e) k head 0 (λ q. omega arith)
 
-  behind-kept : (j : ℕ) → j < 512 → behind boxes′ j ≡ behind longer j
+  behind-kept : (j : ℕ) → j < eventLimit → behind boxes′ j ≡ behind longer j
   behind-kept j l =
-      unslotted (128 + j) (omega arith) ∙ getD-set-other longer b (128 + j) (e + 1) 0 (λ q. omega (arith, box-room (heardAt file e)))
+      unslotted (linksAt + j) (omega arith) ∙ getD-set-other longer b (linksAt + j) (e + 1) 0 (λ q. omega (arith, box-room (heardAt file e)))
 
   behind-new : behind boxes′ e ≡ head
-  behind-new = behind-kept e few ∙ getD-set-same boxes (128 + e) head 0 (omega (arith, x .room))
+  behind-new = behind-kept e few ∙ getD-set-same boxes (linksAt + e) head 0 (omega (arith, x .room))
 
-  behind-other : (j : ℕ) → j < 512 → ¬ (j ≡ e) → behind boxes′ j ≡ behind boxes j
-  behind-other j l n = behind-kept j l ∙ getD-set-other boxes (128 + e) (128 + j) head 0 (λ q. n (omega arith))
+  behind-other : (j : ℕ) → j < eventLimit → ¬ (j ≡ e) → behind boxes′ j ≡ behind boxes j
+  behind-other j l n = behind-kept j l ∙ getD-set-other boxes (linksAt + e) (linksAt + j) head 0 (λ q. n (omega arith))
 
-  falls′ : (j : ℕ) → j < 512 → Dec (j ≡ e) → behind boxes′ j ≤ j
+  falls′ : (j : ℕ) → j < eventLimit → Dec (j ≡ e) → behind boxes′ j ≤ j
   falls′ j l (yes q) = rw (q, behind-new) head-low
   falls′ j l (no n) = rw (behind-other j l n) (x .falls j l)
 
-  low′ : (k : ℕ) → k < 128 → Dec (k ≡ b) → getD boxes′ k 0 ≤ suc e
+  low′ : (k : ℕ) → k < boxCount → Dec (k ≡ b) → getD boxes′ k 0 ≤ suc e
   low′ k l (yes q) = rw (q, new-head) (omega arith)
   low′ k l (no n) = rw (other-head k l n) (omega (arith, x .low k l))
 
@@ -158,7 +159,7 @@ module _ (file boxes : List ℕ) (e : ℕ) (x : Linked file boxes e) (few : e < 
       let kept : behind boxes′ (link - 1) ≡ behind boxes (link - 1) = behind-other (link - 1) (omega arith) (λ q. omega arith) in
       further {s = s} p (rw kept (reach-kept (behind boxes (link - 1)) s (omega (arith, x .falls (link - 1) (omega arith))) r))
 
-  old-reach : (k s : ℕ) → k < 128 → Reach boxes (getD boxes k 0) s → Dec (k ≡ b) → Reach boxes′ (getD boxes′ k 0) s
+  old-reach : (k s : ℕ) → k < boxCount → Reach boxes (getD boxes k 0) s → Dec (k ≡ b) → Reach boxes′ (getD boxes′ k 0) s
   old-reach k s l r (yes q) =
       let r′ : Reach boxes head s = rw q at r in
       let q′ : suc e - 1 ≡ e = omega arith in
@@ -178,7 +179,7 @@ module _ (file boxes : List ℕ) (e : ℕ) (x : Linked file boxes e) (few : e < 
   more-linked : Linked file boxes′ (suc e)
   more-linked =
       record {
-        room = length-set headed slot (e + 1) ∙ length-set longer b (e + 1) ∙ length-set boxes (128 + e) head ∙ x .room;
+        room = length-set headed slot (e + 1) ∙ length-set longer b (e + 1) ∙ length-set boxes (linksAt + e) head ∙ x .room;
         few = omega arith;
         falls = λ j l. falls′ j l (ℕ-discrete j e);
         low = λ k l. low′ k l (ℕ-discrete k b);
@@ -194,7 +195,7 @@ module _ (file boxes : List ℕ) (e : ℕ) (x : Linked file boxes e) (few : e < 
       go (inr f) = rw f more-linked
 
   -- what lies behind the slots stays
-  boxed-far : (k : ℕ) → 1664 ≤ k → getD (boxedIn file boxes e) k 0 ≡ getD boxes k 0
+  boxed-far : (k : ℕ) → clientsAt ≤ k → getD (boxedIn file boxes e) k 0 ≡ getD boxes k 0
   boxed-far k l = go (isAgain file e (getD boxes slot 0) (heardAt file e))
     where
       go : (again : Bool) → getD (choose (not again) boxes′ boxes) k 0 ≡ getD boxes k 0
@@ -202,20 +203,20 @@ module _ (file boxes : List ℕ) (e : ℕ) (x : Linked file boxes e) (few : e < 
       go false =
           getD-set-other headed slot k (e + 1) 0 (λ q. omega (arith, slot-room)) ∙
           getD-set-other longer b k (e + 1) 0 (λ q. omega (arith, box-room (heardAt file e))) ∙
-          getD-set-other boxes (128 + e) k head 0 (λ q. omega arith)
+          getD-set-other boxes (linksAt + e) k head 0 (λ q. omega arith)
 
 -- a store behind the boxes and events leaves the links
-module _ (file boxes : List ℕ) (n at v : ℕ) (far : 640 ≤ at) (x : Linked file boxes n) where
+module _ (file boxes : List ℕ) (n at v : ℕ) (far : slotsAt ≤ at) (x : Linked file boxes n) where
   abbrev stored : List ℕ
   stored = set boxes at v
 
-  near-same : (k : ℕ) → k < 640 → getD stored k 0 ≡ getD boxes k 0
+  near-same : (k : ℕ) → k < slotsAt → getD stored k 0 ≡ getD boxes k 0
   near-same k l = getD-set-other boxes at k v 0 (λ q. omega arith)
 
-  reach-stored : (link s : ℕ) → link ≤ 512 → Reach boxes link s → Reach stored link s
+  reach-stored : (link s : ℕ) → link ≤ eventLimit → Reach boxes link s → Reach stored link s
   reach-stored link s l (here q) = here q
   reach-stored link s l (further p r) =
-      let same : behind stored (link - 1) ≡ behind boxes (link - 1) = near-same (128 + (link - 1)) (omega arith) in
+      let same : behind stored (link - 1) ≡ behind boxes (link - 1) = near-same (linksAt + (link - 1)) (omega arith) in
       further {s = s} p (rw same (reach-stored (behind boxes (link - 1)) s (omega (arith, x .falls (link - 1) (omega arith))) r))
 
   stored-linked : Linked file stored n
@@ -223,7 +224,7 @@ module _ (file boxes : List ℕ) (n at v : ℕ) (far : 640 ≤ at) (x : Linked f
       record {
         room = length-set boxes at v ∙ x .room;
         few = x .few;
-        falls = λ j l. rw (near-same (128 + j) (omega arith)) (x .falls j l);
+        falls = λ j l. rw (near-same (linksAt + j) (omega arith)) (x .falls j l);
         low = λ k l. rw (near-same k (omega arith)) (x .low k l);
         kept = λ j l. moved j (x .kept j l);
       }
@@ -241,7 +242,7 @@ module _ (file boxes : List ℕ) (n at v : ℕ) (far : 640 ≤ at) (x : Linked f
 -- a card is written behind all that was kept before
 module _ (boxes : List ℕ) (e : ℕ) (card : Card) where
   abbrev at : ℕ
-  at = 2688 + 5 * e
+  at = cardsAt + cardSize * e
 
   abbrev carded1 : List ℕ
   carded1 = set boxes at (card .shape)
@@ -273,17 +274,17 @@ module _ (boxes : List ℕ) (e : ℕ) (card : Card) where
       (stored-linked file carded2 n (at + 2) (card .second) (omega arith)
       (stored-linked file carded1 n (at + 1) (card .first) (omega arith) (stored-linked file boxes n at (card .shape) (omega arith) x))))
 
-  module _ (room : length boxes ≡ 5248) (few : e < 512) where
-    room1 : length carded1 ≡ 5248
+  module _ (room : length boxes ≡ boxRoom) (few : e < eventLimit) where
+    room1 : length carded1 ≡ boxRoom
     room1 = length-set boxes at (card .shape) ∙ room
 
-    room2 : length carded2 ≡ 5248
+    room2 : length carded2 ≡ boxRoom
     room2 = length-set carded1 (at + 1) (card .first) ∙ room1
 
-    room3 : length carded3 ≡ 5248
+    room3 : length carded3 ≡ boxRoom
     room3 = length-set carded2 (at + 2) (card .second) ∙ room2
 
-    room4 : length carded4 ≡ 5248
+    room4 : length carded4 ≡ boxRoom
     room4 = length-set carded3 (at + 3) (card .third) ∙ room3
 
     shape-new : getD carded at 0 ≡ card .shape
@@ -320,7 +321,7 @@ module _ (boxes : List ℕ) (e : ℕ) (card : Card) where
 
   card-old : (j : ℕ) → j < e → cardAt carded j ≡ cardAt boxes j
   card-old j l =
-      let k = 2688 + 5 * j in
+      let k = cardsAt + cardSize * j in
       let p0 = carded-before k (omega arith) in
       let p1 = carded-before (k + 1) (omega arith) in
       let p2 = carded-before (k + 2) (omega arith) in
@@ -328,7 +329,7 @@ module _ (boxes : List ℕ) (e : ℕ) (card : Card) where
       let p4 = carded-before (k + 4) (omega arith) in
       λ i. cardWith (p0 i) (p1 i) (p2 i) (p3 i) (p4 i)
 
-module _ (file boxes : List ℕ) (e : ℕ) (x : Boxed file boxes e) (few : e < 512) where
+module _ (file boxes : List ℕ) (e : ℕ) (x : Boxed file boxes e) (few : e < eventLimit) where
   abbrev linked : List ℕ
   linked = boxedIn file boxes e
 
@@ -336,44 +337,44 @@ module _ (file boxes : List ℕ) (e : ℕ) (x : Boxed file boxes e) (few : e < 5
   row = heardAt file e .row
 
   abbrev client : List ℕ
-  client = set linked (1664 + e) (sealMark file false row)
+  client = set linked (clientsAt + e) (sealMark file false row)
 
   abbrev both-sides : List ℕ
-  both-sides = set client (2176 + e) (sealMark file true row)
+  both-sides = set client (serversAt + e) (sealMark file true row)
 
   links′ : Linked file both-sides (suc e)
   links′ =
-      stored-linked file client (suc e) (2176 + e) (sealMark file true row) (omega arith)
-      (stored-linked file linked (suc e) (1664 + e) (sealMark file false row) (omega arith) (boxed-linked file boxes e (x .links) few))
+      stored-linked file client (suc e) (serversAt + e) (sealMark file true row) (omega arith)
+      (stored-linked file linked (suc e) (clientsAt + e) (sealMark file false row) (omega arith) (boxed-linked file boxes e (x .links) few))
 
-  room : length linked ≡ 5248
+  room : length linked ≡ boxRoom
   room = boxed-linked file boxes e (x .links) few .room
 
-  client-new : getD both-sides (1664 + e) 0 ≡ sealMark file false row
+  client-new : getD both-sides (clientsAt + e) 0 ≡ sealMark file false row
   client-new =
-      getD-set-other client (2176 + e) (1664 + e) (sealMark file true row) 0 (λ q. omega arith) ∙
-      getD-set-same linked (1664 + e) (sealMark file false row) 0 (omega (arith, room))
+      getD-set-other client (serversAt + e) (clientsAt + e) (sealMark file true row) 0 (λ q. omega arith) ∙
+      getD-set-same linked (clientsAt + e) (sealMark file false row) 0 (omega (arith, room))
 
-  server-new : getD both-sides (2176 + e) 0 ≡ sealMark file true row
+  server-new : getD both-sides (serversAt + e) 0 ≡ sealMark file true row
   server-new =
-      getD-set-same client (2176 + e) (sealMark file true row) 0
-      (omega (arith, room, length-set linked (1664 + e) (sealMark file false row)))
+      getD-set-same client (serversAt + e) (sealMark file true row) 0
+      (omega (arith, room, length-set linked (clientsAt + e) (sealMark file false row)))
 
-  seal-old : (k : ℕ) → 1664 ≤ k → ¬ (k ≡ 1664 + e) → ¬ (k ≡ 2176 + e) → getD both-sides k 0 ≡ getD boxes k 0
+  seal-old : (k : ℕ) → clientsAt ≤ k → ¬ (k ≡ clientsAt + e) → ¬ (k ≡ serversAt + e) → getD both-sides k 0 ≡ getD boxes k 0
   seal-old k l n m =
-      getD-set-other client (2176 + e) k (sealMark file true row) 0 m ∙
-      getD-set-other linked (1664 + e) k (sealMark file false row) 0 n ∙
+      getD-set-other client (serversAt + e) k (sealMark file true row) 0 m ∙
+      getD-set-other linked (clientsAt + e) k (sealMark file false row) 0 n ∙
       boxed-far file boxes e (x .links) few k l
 
   seals′ : (server : Bool) (j : ℕ) → j < suc e → sealAt both-sides server j ≡ sealMark file server (heardAt file j .row)
-  seals′ server j l = rw (lt-ltb j 512 (omega arith)) (at server (lt-suc j e l))
+  seals′ server j l = rw (lt-ltb j eventLimit (omega arith)) (at server (lt-suc j e l))
     where
-      old : (server : Bool) → j < e → getD boxes (choose server 2176 1664 + j) 0 ≡ sealMark file server (heardAt file j .row)
-      old server m = rw (lt-ltb j 512 (omega arith)) at (x .seals server j m)
+      old : (server : Bool) → j < e → getD boxes (choose server serversAt clientsAt + j) 0 ≡ sealMark file server (heardAt file j .row)
+      old server m = rw (lt-ltb j eventLimit (omega arith)) at (x .seals server j m)
 
-      at : (server : Bool) → (j < e) ⊎ (j ≡ e) → getD both-sides (choose server 2176 1664 + j) 0 ≡ sealMark file server (heardAt file j .row)
-      at true (inl m) = seal-old (2176 + j) (omega arith) (λ q. omega arith) (λ q. omega arith) ∙ old true m
-      at false (inl m) = seal-old (1664 + j) (omega arith) (λ q. omega arith) (λ q. omega arith) ∙ old false m
+      at : (server : Bool) → (j < e) ⊎ (j ≡ e) → getD both-sides (choose server serversAt clientsAt + j) 0 ≡ sealMark file server (heardAt file j .row)
+      at true (inl m) = seal-old (serversAt + j) (omega arith) (λ q. omega arith) (λ q. omega arith) ∙ old true m
+      at false (inl m) = seal-old (clientsAt + j) (omega arith) (λ q. omega arith) (λ q. omega arith) ∙ old false m
       at true (inr q) = rw q server-new
       at false (inr q) = rw q client-new
 
@@ -387,18 +388,18 @@ module _ (file boxes : List ℕ) (e : ℕ) (x : Boxed file boxes e) (few : e < 5
   seals-kept server j l = same server ∙ seals′ server j l
     where
       same : (server : Bool) → sealAt kept server j ≡ sealAt both-sides server j
-      same true = ap (λ (v : ℕ). choose (ltb j 512) v 0) (carded-before both-sides e card (2176 + j) (omega arith))
-      same false = ap (λ (v : ℕ). choose (ltb j 512) v 0) (carded-before both-sides e card (1664 + j) (omega arith))
+      same true = ap (λ (v : ℕ). choose (ltb j eventLimit) v 0) (carded-before both-sides e card (serversAt + j) (omega arith))
+      same false = ap (λ (v : ℕ). choose (ltb j eventLimit) v 0) (carded-before both-sides e card (clientsAt + j) (omega arith))
 
   cards′ : (j : ℕ) → j < suc e → cardAt kept j ≡ cardOf file (heardAt file j)
   cards′ j l = at (lt-suc j e l)
     where
-      far : (k : ℕ) → 2688 ≤ k → getD both-sides k 0 ≡ getD boxes k 0
+      far : (k : ℕ) → cardsAt ≤ k → getD both-sides k 0 ≡ getD boxes k 0
       far k m = seal-old k (omega arith) (λ q. omega arith) (λ q. omega arith)
 
       before : cardAt both-sides j ≡ cardAt boxes j
       before =
-          let k = 2688 + 5 * j in
+          let k = cardsAt + cardSize * j in
           λ i. cardWith (far k (omega arith) i) (far (k + 1) (omega arith) i) (far (k + 2) (omega arith) i) (far (k + 3) (omega arith) i) (far (k + 4) (omega arith) i)
 
       at : (j < e) ⊎ (j ≡ e) → cardAt kept j ≡ cardOf file (heardAt file j)
@@ -407,13 +408,13 @@ module _ (file boxes : List ℕ) (e : ℕ) (x : Boxed file boxes e) (few : e < 5
 
   pub keep-boxed : Boxed file (keptIn file boxes e) (suc e)
   keep-boxed =
-      rw (lt-ltb e 512 few) (record { links = carded-linked both-sides e card file (suc e) links′; seals = seals-kept; cards = cards′ })
+      rw (lt-ltb e eventLimit few) (record { links = carded-linked both-sides e card file (suc e) links′; seals = seals-kept; cards = cards′ })
 
 -- what `box_event` leaves, by what it found
 module _ (file boxes : List ℕ) (e : ℕ) {h : Heard} (heard : h ≡ heardAt file e) {at slot : ℕ} (box : at ≡ boxOf h) (place : slot ≡ slotOf h)
-    {again : Bool} (test : again ≡ isAgain file e (getD boxes (640 + slot) 0) h) where
+    {again : Bool} (test : again ≡ isAgain file e (getD boxes (slotsAt + slot) 0) h) where
   abbrev writtenAt : ℕ → ℕ → List ℕ
-  writtenAt at slot = set (set (set boxes (128 + e) (getD boxes at 0)) at (e + 1)) (640 + slot) (e + 1)
+  writtenAt at slot = set (set (set boxes (linksAt + e) (getD boxes at 0)) at (e + 1)) (slotsAt + slot) (e + 1)
 
   abbrev boxedBy : ℕ → ℕ → Bool → List ℕ
   boxedBy at slot again = choose (not again) (writtenAt at slot) boxes
@@ -422,8 +423,8 @@ module _ (file boxes : List ℕ) (e : ℕ) {h : Heard} (heard : h ≡ heardAt fi
   boxed-is =
       let b : at ≡ boxOf (heardAt file e) = box ∙ ap boxOf heard in
       let s : slot ≡ slotOf (heardAt file e) = place ∙ ap slotOf heard in
-      let a : again ≡ isAgain file e (getD boxes (640 + slotOf (heardAt file e)) 0) (heardAt file e) =
-      test ∙ (λ i. isAgain file e (getD boxes (640 + s i) 0) (heard i))
+      let a : again ≡ isAgain file e (getD boxes (slotsAt + slotOf (heardAt file e)) 0) (heardAt file e) =
+      test ∙ (λ i. isAgain file e (getD boxes (slotsAt + s i) 0) (heard i))
       in
       λ i. boxedBy (b i) (s i) (a i)
 
@@ -437,12 +438,12 @@ module _ (file boxes : List ℕ) (e : ℕ) {h : Heard} (heard : h ≡ heardAt fi
       let w : boxedBy at slot again ≡ boxes = rw t refl in
       sym w ∙ boxed-is
 
-pub keep-writes : (file boxes : List ℕ) (e : ℕ) {h : Heard} {linked : List ℕ} {client server : ℕ} {card : Card} → e < 512 → h ≡ heardAt file e →
+pub keep-writes : (file boxes : List ℕ) (e : ℕ) {h : Heard} {linked : List ℕ} {client server : ℕ} {card : Card} → e < eventLimit → h ≡ heardAt file e →
     linked ≡ boxedIn file boxes e → client ≡ sealMark file false (h .row) → server ≡ sealMark file true (h .row) → card ≡ cardOf file h →
-    cardedIn (set (set linked (1664 + e) client) (2176 + e) server) e card ≡ keptIn file boxes e
+    cardedIn (set (set linked (clientsAt + e) client) (serversAt + e) server) e card ≡ keptIn file boxes e
 keep-writes file boxes e {h} {linked} {client} {server} {card} l heard q c s d =
     let c′ : client ≡ sealMark file false (heardAt file e .row) = c ∙ (λ i. sealMark file false (heard i .row)) in
     let s′ : server ≡ sealMark file true (heardAt file e .row) = s ∙ (λ i. sealMark file true (heard i .row)) in
     let d′ : card ≡ cardOf file (heardAt file e) = d ∙ ap (cardOf file) heard in
-    let w : keptIn file boxes e ≡ cardedIn (sealedIn file (boxedIn file boxes e) e) e (cardOf file (heardAt file e)) = rw (lt-ltb e 512 l) refl in
-    (λ i. cardedIn (set (set (q i) (1664 + e) (c′ i)) (2176 + e) (s′ i)) e (d′ i)) ∙ sym w
+    let w : keptIn file boxes e ≡ cardedIn (sealedIn file (boxedIn file boxes e) e) e (cardOf file (heardAt file e)) = rw (lt-ltb e eventLimit l) refl in
+    (λ i. cardedIn (set (set (q i) (clientsAt + e) (c′ i)) (serversAt + e) (s′ i)) e (d′ i)) ∙ sym w

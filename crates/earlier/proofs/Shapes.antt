@@ -6,6 +6,7 @@ use mathlib.Core.List.{List}
 use mathlib.Core.Path.{_≡_, refl, sym, _∙_, ap}
 use lib.Dec.{eqb, ltb}
 use borrow.Author.Tests.{lt-ltb, eq-eqb, ne-eqb, not-true}
+use Rattle.trace.specs.File.{eventLimit}
 use Rattle.trace.specs.Rows.{choose}
 use Rattle.trace.proofs.Both.{both, both3, refuted, and-true, and-false}
 use Rattle.forms.specs.Kinds.{cryptOf, publicOf}
@@ -278,24 +279,24 @@ module _ (boxes : List ℕ) (look : Look) (j : ℕ) where
   abbrev kept : Card
   kept = cardAt boxes j
 
-  pub other-shape : j < 512 → ¬ (kept .shape ≡ look .shape) → false ≡ (ltb j 512 && fitsCard look kept)
-  other-shape l n = rw (lt-ltb j 512 l, ne-eqb (kept .shape) (look .shape) n) refl
+  pub other-shape : j < eventLimit → ¬ (kept .shape ≡ look .shape) → false ≡ (ltb j eventLimit && fitsCard look kept)
+  other-shape l n = rw (lt-ltb j eventLimit l, ne-eqb (kept .shape) (look .shape) n) refl
 
-  pub same-shape : j < 512 → kept .shape ≡ look .shape → {a b c d : Bool} → a ≡ fitsPart (look .first) (kept .first) →
+  pub same-shape : j < eventLimit → kept .shape ≡ look .shape → {a b c d : Bool} → a ≡ fitsPart (look .first) (kept .first) →
       b ≡ fitsPart (look .second) (kept .second) → c ≡ fitsPart (look .third) (kept .third) → d ≡ fitsPart (look .fourth) (kept .fourth) →
-      (a && b && c && d) ≡ (ltb j 512 && fitsCard look kept)
+      (a && b && c && d) ≡ (ltb j eventLimit && fitsCard look kept)
   same-shape l e p q r s =
       (λ i. p i && q i && r i && s i) ∙
       (λ i.
-      sym (lt-ltb j 512 l) i &&
+      sym (lt-ltb j eventLimit l) i &&
       (sym (eq-eqb (kept .shape) (look .shape) e) i && fitsPart (look .first) (kept .first) && fitsPart (look .second) (kept .second) &&
       fitsPart (look .third) (kept .third) && fitsPart (look .fourth) (kept .fourth)))
 
 -- the agents are asked for where the card is what is looked for
 module _ (file boxes : List ℕ) (wanted : Wanted) (j : ℕ) {look : Look} (asked : look ≡ lookFor wanted) {x : Bool}
-    (test : x ≡ (ltb j 512 && fitsCard look (cardAt boxes j))) where
-  card-test : x ≡ (ltb j 512 && fitsCard (lookFor wanted) (cardAt boxes j))
-  card-test = test ∙ (λ i. ltb j 512 && fitsCard (asked i) (cardAt boxes j))
+    (test : x ≡ (ltb j eventLimit && fitsCard look (cardAt boxes j))) where
+  card-test : x ≡ (ltb j eventLimit && fitsCard (lookFor wanted) (cardAt boxes j))
+  card-test = test ∙ (λ i. ltb j eventLimit && fitsCard (asked i) (cardAt boxes j))
 
   pub fits-both : {h : Heard} {a : Bool} → x ≡ true → h ≡ heardAt file j → a ≡ fitsAgents wanted h → a ≡ fitsAt file boxes wanted j
   fits-both t e q = q ∙ (λ i. fitsAgents wanted (e i)) ∙ (λ i. (sym t ∙ card-test) i && fitsAgents wanted (heardAt file j))

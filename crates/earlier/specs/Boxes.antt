@@ -5,6 +5,7 @@ use mathlib.Core.Bool.{Bool, true, false, _&&_, _||_}
 use mathlib.Core.List.{List, [], _∷_}
 use lib.Dec.{ltb}
 use lib.ListN.{getD}
+use Rattle.trace.specs.File.{eventLimit, agentLimit}
 use Rattle.trace.specs.First.{any}
 use Rattle.trace.specs.Rows.{choose}
 use Rattle.earlier.specs.declared.Heard.{Heard}
@@ -14,33 +15,65 @@ use Rattle.earlier.specs.declared.cards.Card.{Card}
 use Rattle.earlier.specs.Earlier.{heardAt}
 use Rattle.earlier.specs.Cards.{cardWith, lookFor, fitsCard, fitsAgents}
 
+-- the array: the boxes of what is said to each agent and of its notes, then a link for each event, the slots,
+-- the hashes of the clients' Finished and of the servers', and the cards
+abbrev pub notesAt : ℕ
+notesAt = agentLimit
+
+abbrev pub boxCount : ℕ
+boxCount = 2 * agentLimit
+
+abbrev pub linksAt : ℕ
+linksAt = boxCount
+
+abbrev pub slotsAt : ℕ
+slotsAt = linksAt + eventLimit
+
+abbrev pub slotCount : ℕ
+slotCount = 1024
+
+abbrev pub clientsAt : ℕ
+clientsAt = slotsAt + slotCount
+
+abbrev pub serversAt : ℕ
+serversAt = clientsAt + eventLimit
+
+abbrev pub cardsAt : ℕ
+cardsAt = serversAt + eventLimit
+
+abbrev pub cardSize : ℕ
+cardSize = 5
+
+abbrev pub boxRoom : ℕ
+boxRoom = cardsAt + cardSize * eventLimit
+
 abbrev pub boxOf : Heard → ℕ
-boxOf h = choose (h .says) (h .to % 64) (64 + h .from % 64)
+boxOf h = choose (h .says) (h .to % agentLimit) (notesAt + h .from % agentLimit)
 
 abbrev pub boxFor : Wanted → ℕ
-boxFor (HelloFor to agent sid) = to % 64
-boxFor (HelloBy from to na sid pa) = to % 64
-boxFor (HelloTo to agent na sid pa) = to % 64
-boxFor (ReplyWith to nb) = to % 64
-boxFor (ReplyTo to nb sid pb) = to % 64
-boxFor (ReplyBy from to nb sid pb) = to % 64
-boxFor (Cert to agent key) = to % 64
-boxFor (Secret from agent secret) = 64 + from % 64
-boxFor (Sent to secret) = to % 64
-boxFor (Session from sid a b m) = 64 + from % 64
-boxFor (Under from key) = 128
+boxFor (HelloFor to agent sid) = to % agentLimit
+boxFor (HelloBy from to na sid pa) = to % agentLimit
+boxFor (HelloTo to agent na sid pa) = to % agentLimit
+boxFor (ReplyWith to nb) = to % agentLimit
+boxFor (ReplyTo to nb sid pb) = to % agentLimit
+boxFor (ReplyBy from to nb sid pb) = to % agentLimit
+boxFor (Cert to agent key) = to % agentLimit
+boxFor (Secret from agent secret) = notesAt + from % agentLimit
+boxFor (Sent to secret) = to % agentLimit
+boxFor (Session from sid a b m) = notesAt + from % agentLimit
+boxFor (Under from key) = boxCount
 
 -- the latest event in the box of what is said to an agent
 abbrev pub latestTo : List ℕ → ℕ → ℕ
-latestTo boxes to = getD boxes (to % 64) 0
+latestTo boxes to = getD boxes (to % agentLimit) 0
 
 -- the event before this one in its box
 abbrev pub behind : List ℕ → ℕ → ℕ
-behind boxes e = getD boxes (128 + e) 0
+behind boxes e = getD boxes (linksAt + e) 0
 
 -- a link that does not fall, or comes from no event, leads nowhere
 abbrev pub next : List ℕ → ℕ → ℕ
-next boxes link = choose (ltb link 513 && ltb 0 link) (choose (ltb (behind boxes (link - 1)) link) (behind boxes (link - 1)) 0) 0
+next boxes link = choose (ltb link (eventLimit + 1) && ltb 0 link) (choose (ltb (behind boxes (link - 1)) link) (behind boxes (link - 1)) 0) 0
 
 -- the events of a chain from a link on, the latest first; the first number bounds them
 unfoldable pub chain : List ℕ → ℕ → ℕ → List ℕ
@@ -57,14 +90,14 @@ some p (j ∷ js) = p j || some p js
 -- the card of an event that was kept
 abbrev pub cardAt : List ℕ → ℕ → Card
 cardAt boxes j =
-    let at = 2688 + 5 * j in
+    let at = cardsAt + cardSize * j in
     cardWith (getD boxes at 0) (getD boxes (at + 1) 0) (getD boxes (at + 2) 0) (getD boxes (at + 3) 0) (getD boxes (at + 4) 0)
 
 abbrev pub fitsAt : (file boxes : List ℕ) → Wanted → ℕ → Bool
-fitsAt file boxes wanted j = ltb j 512 && fitsCard (lookFor wanted) (cardAt boxes j) && fitsAgents wanted (heardAt file j)
+fitsAt file boxes wanted j = ltb j eventLimit && fitsCard (lookFor wanted) (cardAt boxes j) && fitsAgents wanted (heardAt file j)
 
 -- what is wanted is in its box; what lies under a key can be in any box of what is said
 abbrev pub found : (file boxes : List ℕ) → Wanted → Bool
 found file boxes wanted =
-    choose (ltb (boxFor wanted) 128) (some (fitsAt file boxes wanted) (chainFrom boxes (getD boxes (boxFor wanted) 0)))
-    (any (λ b. some (fitsAt file boxes wanted) (chainFrom boxes (getD boxes b 0))) 64)
+    choose (ltb (boxFor wanted) boxCount) (some (fitsAt file boxes wanted) (chainFrom boxes (getD boxes (boxFor wanted) 0)))
+    (any (λ b. some (fitsAt file boxes wanted) (chainFrom boxes (getD boxes b 0))) agentLimit)

@@ -5,17 +5,18 @@ use mathlib.Core.List.{List}
 use mathlib.Core.Path.{_≡_}
 use lib.Dec.{ltb}
 use lib.ListN.{length, getD, set}
+use Rattle.trace.specs.File.{rowLimit, eventLimit}
 use Rattle.trace.specs.Rows.{choose}
 use Rattle.forms.specs.Forms.{sealedOf}
 use Rattle.earlier.specs.declared.Heard.{Heard}
 use Rattle.earlier.specs.declared.cards.Card.{Card}
 use Rattle.earlier.specs.Earlier.{heardAt, sameHeard}
 use Rattle.earlier.specs.Cards.{cardOf}
-use Rattle.earlier.specs.Boxes.{boxOf, behind, cardAt}
+use Rattle.earlier.specs.Boxes.{boxCount, linksAt, slotCount, slotsAt, clientsAt, serversAt, cardsAt, cardSize, boxRoom, boxOf, behind, cardAt}
 
 -- equal events have one slot, which leads to the last of them that was kept; others may share it
 abbrev pub slotOf : Heard → ℕ
-slotOf h = (h .row * 5 + h .from * 97 + h .to * 31) % 1024
+slotOf h = (h .row * 5 + h .from * 97 + h .to * 31) % slotCount
 
 abbrev pub isAgain : List ℕ → (e link : ℕ) → Heard → Bool
 isAgain file e link h = ltb 0 link && ltb link (e + 1) && sameHeard (heardAt file (link - 1)) h
@@ -24,32 +25,32 @@ isAgain file e link h = ltb 0 link && ltb link (e + 1) && sameHeard (heardAt fil
 abbrev pub sealMark : List ℕ → Bool → ℕ → ℕ
 sealMark file server r =
     let f = sealedOf file r in
-    choose (f .is && choose server (f .server) (not (f .server))) (choose (ltb (f .hash) 1024) (f .hash + 1) 65535) 0
+    choose (f .is && choose server (f .server) (not (f .server))) (choose (ltb (f .hash) rowLimit) (f .hash + 1) 65535) 0
 
 abbrev pub sealAt : List ℕ → Bool → ℕ → ℕ
-sealAt boxes server e = choose (ltb e 512) (getD boxes (choose server 2176 1664 + e) 0) 0
+sealAt boxes server e = choose (ltb e eventLimit) (getD boxes (choose server serversAt clientsAt + e) 0) 0
 
 -- event e in front of its box, unless it is known that one that equals it is kept
 abbrev pub boxedIn : (file boxes : List ℕ) → ℕ → List ℕ
 boxedIn file boxes e =
     let at = boxOf (heardAt file e) in
-    let slot = 640 + slotOf (heardAt file e) in
+    let slot = slotsAt + slotOf (heardAt file e) in
     choose (not (isAgain file e (getD boxes slot 0) (heardAt file e)))
-    (set (set (set boxes (128 + e) (getD boxes at 0)) at (e + 1)) slot (e + 1))
+    (set (set (set boxes (linksAt + e) (getD boxes at 0)) at (e + 1)) slot (e + 1))
     boxes
 
 abbrev pub sealedIn : (file boxes : List ℕ) → ℕ → List ℕ
 sealedIn file boxes e =
     let row = heardAt file e .row in
-    set (set boxes (1664 + e) (sealMark file false row)) (2176 + e) (sealMark file true row)
+    set (set boxes (clientsAt + e) (sealMark file false row)) (serversAt + e) (sealMark file true row)
 
 abbrev pub cardedIn : List ℕ → ℕ → Card → List ℕ
 cardedIn boxes e card =
-    let at = 2688 + 5 * e in
+    let at = cardsAt + cardSize * e in
     set (set (set (set (set boxes at (card .shape)) (at + 1) (card .first)) (at + 2) (card .second)) (at + 3) (card .third)) (at + 4) (card .fourth)
 
 abbrev pub keptIn : (file boxes : List ℕ) → ℕ → List ℕ
-keptIn file boxes e = choose (ltb e 512) (cardedIn (sealedIn file (boxedIn file boxes e) e) e (cardOf file (heardAt file e))) boxes
+keptIn file boxes e = choose (ltb e eventLimit) (cardedIn (sealedIn file (boxedIn file boxes e) e) e (cardOf file (heardAt file e))) boxes
 
 -- event s is on the chain that begins at the link
 pub data Reach (boxes : List ℕ) : ℕ → ℕ → Type 0 where
@@ -58,10 +59,10 @@ pub data Reach (boxes : List ℕ) : ℕ → ℕ → Type 0 where
 
 -- the events before e are in their boxes, each or one that equals it
 pub record Linked (file boxes : List ℕ) (e : ℕ) : Type 0 where
-  pub room : length boxes ≡ 5248
-  pub few : e ≤ 512
-  pub falls : (j : ℕ) → j < 512 → behind boxes j ≤ j
-  pub low : (b : ℕ) → b < 128 → getD boxes b 0 ≤ e
+  pub room : length boxes ≡ boxRoom
+  pub few : e ≤ eventLimit
+  pub falls : (j : ℕ) → j < eventLimit → behind boxes j ≤ j
+  pub low : (b : ℕ) → b < boxCount → getD boxes b 0 ≤ e
   pub kept : (j : ℕ) → j < e → (s : ℕ) × Reach boxes (getD boxes (boxOf (heardAt file j)) 0) s × (heardAt file s ≡ heardAt file j)
 
 -- and the hashes of their Finished and their cards are known

@@ -12,44 +12,52 @@ use super::cards::Card;
 use super::cards::Look;
 use super::hear;
 use super::same_heard;
+use trace::limits::AGENT_LIMIT;
+use trace::limits::AGENTS;
+use trace::limits::EVENT_LIMIT;
+use trace::limits::EVENTS;
+use trace::limits::ROWS;
 ghost use mathlib.Core.Path.{_≡_};
 ghost use Prim.Native.Nat.{_<_};
 ghost use lib.ListN.{getD};
+ghost use Rattle.trace.specs.File.{eventLimit, agentLimit};
 ghost use Rattle.trace.specs.First.{any};
 ghost use lib.Dec.{ltb};
 ghost use mathlib.Core.Bool.{_&&_};
 ghost use Rattle.earlier.specs.Earlier.{heardAt};
 ghost use Rattle.earlier.specs.Cards.{lookFor, fitsCard};
-ghost use Rattle.earlier.specs.Boxes.{boxOf, boxFor, latestTo, next, chainFrom, some, cardAt, fitsAt};
+ghost use Rattle.earlier.specs.Boxes.{boxCount, slotCount, boxOf, boxFor, latestTo, next, chainFrom, some, cardAt, fitsAt};
 ghost use Rattle.earlier.specs.Kept.{slotOf, isAgain, sealMark, sealAt, boxedIn, cardedIn, keptIn};
 
-const AGENTS: u16 = 64;
+// The parts of the array, one behind the other: first the boxes of receivers, then those of notes.
+const NOTES: u16 = AGENTS;
 
-const NOTES: u16 = 64;
+pub(crate) const BOXES: usize = 2 * AGENT_LIMIT;
 
-pub(crate) const BOXES: usize = 128;
+const NO_BOX: u16 = BOXES as u16;
 
-const EVENTS: u16 = 512;
+const LINKS_AT: usize = BOXES;
 
-const SLOTS_AT: usize = 640;
+const SLOTS_AT: usize = LINKS_AT + EVENT_LIMIT;
 
 const SLOTS: usize = 1024;
 
-const CLIENTS_AT: usize = 1664;
+const CLIENTS_AT: usize = SLOTS_AT + SLOTS;
 
-const SERVERS_AT: usize = 2176;
+const SERVERS_AT: usize = CLIENTS_AT + EVENT_LIMIT;
 
-const CARDS_AT: usize = 2688;
+const CARDS_AT: usize = SERVERS_AT + EVENT_LIMIT;
 
 const CARD: usize = 5;
 
-const ROWS: u16 = 1024;
+// The whole array.
+pub const BOX_ROOM: usize = CARDS_AT + CARD * EVENT_LIMIT;
 
 // A hash past the rows that have marks.
 const FAR: u16 = 65535;
 
 fn box_of(h: Heard) -> u16
-    ensures { λ b. ⌜ (b ≡ boxOf h) × (b < 128) ⌝ }
+    ensures { λ b. ⌜ (b ≡ boxOf h) × (b < boxCount) ⌝ }
 {
     if h.says {
         h.to % AGENTS
@@ -73,19 +81,19 @@ pub(crate) fn box_for(wanted: Wanted) -> u16
         Wanted::Secret(from, _, _) => NOTES + from % AGENTS,
         Wanted::Sent(to, _) => to % AGENTS,
         Wanted::Session(from, _, _, _, _) => NOTES + from % AGENTS,
-        Wanted::Under(_, _) => 128,
+        Wanted::Under(_, _) => NO_BOX,
     }
 }
 
 // The latest event that was said to an agent: one more than its number, or 0.
-pub fn latest_to(boxes: &[u16; 5248], to: u16) -> u16
+pub fn latest_to(boxes: &[u16; BOX_ROOM], to: u16) -> u16
     ensures { λ link. ⌜ link ≡ latestTo (now (boxes .entry)) to ⌝ }
 {
     boxes[(to % AGENTS) as usize]
 }
 
 // The next link of a chain. It falls, so that every walk ends, whatever the array holds.
-pub fn next(boxes: &[u16; 5248], link: u16) -> u16
+pub fn next(boxes: &[u16; BOX_ROOM], link: u16) -> u16
     ensures { λ l. ⌜ l ≡ next (now (boxes .entry)) link ⌝ }
 {
     if EVENTS < link {
@@ -94,13 +102,13 @@ pub fn next(boxes: &[u16; 5248], link: u16) -> u16
     if link == 0 {
         return 0;
     }
-    let l = boxes[BOXES + ((link - 1) as usize)];
+    let l = boxes[LINKS_AT + ((link - 1) as usize)];
     if l < link { l } else { 0 }
 }
 
 // Whether the card of event j is what is asked for: the shape first, since most differ there.
-fn fits_card(boxes: &[u16; 5248], look: Look, j: u16) -> bool
-    ensures { λ b. ⌜ b ≡ (ltb j 512 && fitsCard look (cardAt (now (boxes .entry)) j)) ⌝ }
+fn fits_card(boxes: &[u16; BOX_ROOM], look: Look, j: u16) -> bool
+    ensures { λ b. ⌜ b ≡ (ltb j eventLimit && fitsCard look (cardAt (now (boxes .entry)) j)) ⌝ }
 {
     if EVENTS <= j {
         return false;
@@ -116,7 +124,7 @@ fn fits_card(boxes: &[u16; 5248], look: Look, j: u16) -> bool
 }
 
 // Whether event j is what is wanted.
-fn fits(file: &[u8], boxes: &[u16; 5248], wanted: Wanted, look: Look, j: u16) -> bool
+fn fits(file: &[u8], boxes: &[u16; BOX_ROOM], wanted: Wanted, look: Look, j: u16) -> bool
     requires { ⌜ look ≡ lookFor wanted ⌝ }
     ensures { λ b. ⌜ b ≡ fitsAt (now (file .entry)) (now (boxes .entry)) wanted j ⌝ }
 {
@@ -131,7 +139,7 @@ fn fits(file: &[u8], boxes: &[u16; 5248], wanted: Wanted, look: Look, j: u16) ->
 // Whether an event of the chain is what is wanted, the latest first.
 pub(crate) fn search(
     file: &[u8],
-    boxes: &[u16; 5248],
+    boxes: &[u16; BOX_ROOM],
     wanted: Wanted,
     look: Look,
     head: u16,
@@ -151,10 +159,10 @@ pub(crate) fn search(
 }
 
 // The same in the boxes of all receivers.
-pub(crate) fn search_all(file: &[u8], boxes: &[u16; 5248], wanted: Wanted, look: Look) -> bool
+pub(crate) fn search_all(file: &[u8], boxes: &[u16; BOX_ROOM], wanted: Wanted, look: Look) -> bool
     requires { ⌜ look ≡ lookFor wanted ⌝ }
     ensures { λ b. ⌜ b ≡ any (λ b. some (fitsAt (now (file .entry)) (now (boxes .entry)) wanted)
-        (chainFrom (now (boxes .entry)) (getD (now (boxes .entry)) b 0))) 64 ⌝ }
+        (chainFrom (now (boxes .entry)) (getD (now (boxes .entry)) b 0))) agentLimit ⌝ }
 {
     let mut b: u16 = 0;
     while b < AGENTS {
@@ -169,7 +177,7 @@ pub(crate) fn search_all(file: &[u8], boxes: &[u16; 5248], wanted: Wanted, look:
 
 // Odd factors spread the events of a usual file over all slots.
 fn slot_of(h: Heard) -> usize
-    ensures { λ s. ⌜ (s ≡ slotOf h) × (s < 1024) ⌝ }
+    ensures { λ s. ⌜ (s ≡ slotOf h) × (s < slotCount) ⌝ }
 {
     ((h.row as usize) * 5 + (h.from as usize) * 97 + (h.to as usize) * 31) % SLOTS
 }
@@ -207,7 +215,7 @@ fn seal_of(file: &[u8], r: u16, server: bool) -> u16
 }
 
 // What `seal_of` said of an event's row when it was kept.
-pub fn sealed(boxes: &[u16; 5248], server: bool, e: u16) -> u16
+pub fn sealed(boxes: &[u16; BOX_ROOM], server: bool, e: u16) -> u16
     ensures { λ m. ⌜ m ≡ sealAt (now (boxes .entry)) server e ⌝ }
 {
     if EVENTS <= e {
@@ -221,8 +229,8 @@ pub fn sealed(boxes: &[u16; 5248], server: bool, e: u16) -> u16
 }
 
 // Event e, which is h, is put into its box, unless its slot leads to one that equals it.
-fn box_event(file: &[u8], boxes: &mut [u16; 5248], e: u16, h: Heard)
-    requires { ⌜ e < 512 ⌝ }
+fn box_event(file: &[u8], boxes: &mut [u16; BOX_ROOM], e: u16, h: Heard)
+    requires { ⌜ e < eventLimit ⌝ }
     requires { ⌜ h ≡ heardAt (now file) e ⌝ }
     ensures { λ _. ⌜ now (boxes .exit) ≡ boxedIn (now (file .entry)) (now (boxes .entry)) e ⌝ }
 {
@@ -230,15 +238,15 @@ fn box_event(file: &[u8], boxes: &mut [u16; 5248], e: u16, h: Heard)
     let slot = SLOTS_AT + slot_of(h);
     let again = is_again(file, e, boxes[slot], h);
     if !again {
-        boxes[BOXES + (e as usize)] = boxes[at];
+        boxes[LINKS_AT + (e as usize)] = boxes[at];
         boxes[at] = e + 1;
         boxes[slot] = e + 1;
     }
 }
 
 // The card of event e is written down.
-fn keep_card(boxes: &mut [u16; 5248], e: u16, card: Card)
-    requires { ⌜ e < 512 ⌝ }
+fn keep_card(boxes: &mut [u16; BOX_ROOM], e: u16, card: Card)
+    requires { ⌜ e < eventLimit ⌝ }
     ensures { λ _. ⌜ now (boxes .exit) ≡ cardedIn (now (boxes .entry)) e card ⌝ }
 {
     let at = CARDS_AT + CARD * (e as usize);
@@ -250,7 +258,7 @@ fn keep_card(boxes: &mut [u16; 5248], e: u16, card: Card)
 }
 
 // Event e is kept: in its box, by the hash of its Finished, and by its card.
-pub fn keep(file: &[u8], boxes: &mut [u16; 5248], e: u16)
+pub fn keep(file: &[u8], boxes: &mut [u16; BOX_ROOM], e: u16)
     ensures { λ _. ⌜ now (boxes .exit) ≡ keptIn (now (file .entry)) (now (boxes .entry)) e ⌝ }
 {
     if e < EVENTS {

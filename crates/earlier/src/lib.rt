@@ -91,7 +91,7 @@ fn same_heard(h: Heard, g: Heard) -> bool
 }
 
 // Whether some earlier event is what is wanted.
-pub fn happened(file: &[u8], boxes: &[u16; 5248], wanted: Wanted) -> bool
+pub fn happened(file: &[u8], boxes: &[u16; boxes::BOX_ROOM], wanted: Wanted) -> bool
     ensures { λ b. ⌜ b ≡ found (now (file .entry)) (now (boxes .entry)) wanted ⌝ }
 {
     let look = cards::look_for(wanted);

@@ -1,6 +1,7 @@
 // The four Finished over rows: rules 8, 9, 12 and 13.
 use earlier::Heard;
 use earlier::Wanted;
+use earlier::boxes::BOX_ROOM;
 use forms::Sealed;
 use forms::leaves::Three;
 ghost use mathlib.Core.Path.{_≡_};
@@ -31,7 +32,7 @@ fn with_prf(is: bool, m: Sealed, p: Three) -> bool
 }
 
 // Rule 8: ClientFinished.
-pub fn client_finished(file: &[u8], boxes: &[u16; 5248], h: Heard) -> bool
+pub fn client_finished(file: &[u8], boxes: &[u16; BOX_ROOM], h: Heard) -> bool
     ensures { λ b. ⌜ b ≡ clientFinished (now (file .entry)) (found (now (file .entry)) (now (boxes .entry))) h ⌝ }
 {
     if h.says {
@@ -68,7 +69,7 @@ pub fn client_finished(file: &[u8], boxes: &[u16; 5248], h: Heard) -> bool
 }
 
 // Rule 9: ServerFinished.
-pub fn server_finished(file: &[u8], boxes: &[u16; 5248], h: Heard) -> bool
+pub fn server_finished(file: &[u8], boxes: &[u16; BOX_ROOM], h: Heard) -> bool
     ensures { λ b. ⌜ b ≡ serverFinished (now (file .entry)) (found (now (file .entry)) (now (boxes .entry))) h ⌝ }
 {
     if h.says {
@@ -101,7 +102,7 @@ pub fn server_finished(file: &[u8], boxes: &[u16; 5248], h: Heard) -> bool
 }
 
 // Rule 12: ClientResume.
-pub fn client_resume(file: &[u8], boxes: &[u16; 5248], h: Heard) -> bool
+pub fn client_resume(file: &[u8], boxes: &[u16; BOX_ROOM], h: Heard) -> bool
     ensures { λ b. ⌜ b ≡ clientResume (now (file .entry)) (found (now (file .entry)) (now (boxes .entry))) h ⌝ }
 {
     if h.says {
@@ -136,7 +137,7 @@ pub fn client_resume(file: &[u8], boxes: &[u16; 5248], h: Heard) -> bool
 }
 
 // Rule 13: ServerResume.
-pub fn server_resume(file: &[u8], boxes: &[u16; 5248], h: Heard) -> bool
+pub fn server_resume(file: &[u8], boxes: &[u16; BOX_ROOM], h: Heard) -> bool
     ensures { λ b. ⌜ b ≡ serverResume (now (file .entry)) (found (now (file .entry)) (now (boxes .entry))) h ⌝ }
 {
     if h.says {

@@ -9,6 +9,7 @@ use native.Mathlib.Omega.{arith}
 use lib.Dec.{ltb, leb}
 use borrow.Author.Tests.{ltb-true, lt-ltb, le-ltb, le-leb, lt-leb}
 use lib.ListN.{set}
+use Rattle.trace.specs.File.{rowLimit}
 use Rattle.trace.specs.Rows.{rowAt}
 use Rattle.trace.proofs.Both.{or-true}
 use Rattle.trace.proofs.First.{lt-suc}
@@ -69,7 +70,7 @@ module _ (file known : List ℕ) where
   unfolding makeRow
   deeper zero ms row l = absurd (omega arith)
   deeper (suc d) ms row l =
-      by-test (rowMarked known row || rowMarked ms row) (leb 1024 row)
+      by-test (rowMarked known row || rowMarked ms row) (leb rowLimit row)
       (with-same (makeRow file known (suc d)) (makeRow file known d) row (λ ms′ x h. deeper d ms′ x (omega arith)) ms (partsOf known (rowAt file row)))
     where
       by-test : (b c : Bool) → {s t : Made} → s ≡ t →
@@ -100,14 +101,14 @@ module _ (file known : List ℕ) where
 
     -- a row that is neither known nor marked
     module _ (unknown : rowMarked known row ≡ false) (unmarked : rowMarked ms row ≡ false) where
-      pub make-past : 1024 ≤ row → told ms false ≡ makeRow file known (suc row) ms row
+      pub make-past : rowLimit ≤ row → told ms false ≡ makeRow file known (suc row) ms row
       unfolding makeRow
-      make-past l = rw (unknown, unmarked, le-leb 1024 row l, makeRow)
+      make-past l = rw (unknown, unmarked, le-leb rowLimit row l, makeRow)
 
-      module _ (room : row < 1024) (parts : Parts) (parted : parts ≡ partsOf known (rowAt file row)) where
+      module _ (room : row < rowLimit) (parts : Parts) (parted : parts ≡ partsOf known (rowAt file row)) where
         pub make-leaf : parts .leaf ≡ true → told ms (parts .can) ≡ makeRow file known (suc row) ms row
         unfolding makeRow
-        make-leaf e = rw (unknown, unmarked, lt-leb 1024 row room, makeRow, ← parted, e)
+        make-leaf e = rw (unknown, unmarked, lt-leb rowLimit row room, makeRow, ← parted, e)
 
         abbrev go : List ℕ → ℕ → Made
         go = makeRow file known row
@@ -115,7 +116,7 @@ module _ (file known : List ℕ) where
         module _ (not-leaf : parts .leaf ≡ false) (ls : List ℕ) (l : Bool) (left : told ls l ≡ madeBelow go ms row (parts .left)) where
           sides : makeThen go row (parts .right) (told ls l) ≡ makeRow file known (suc row) ms row
           unfolding makeRow
-          sides = rw (unknown, unmarked, lt-leb 1024 row room, makeRow, ← parted, not-leaf) (ap (makeThen go row (parts .right)) left)
+          sides = rw (unknown, unmarked, lt-leb rowLimit row room, makeRow, ← parted, not-leaf) (ap (makeThen go row (parts .right)) left)
 
           pub make-no-left : not l ≡ true → told ls false ≡ makeRow file known (suc row) ms row
           make-no-left e = then-no go row (parts .right) ls l e ∙ sides

@@ -10,6 +10,7 @@ use lib.Dec.{eqb, ltb, leb}
 use lib.ListN.{set}
 use lib.Seq.{getD-set-other}
 use borrow.Author.Tests.{ltb-true, leb-true, le-leb}
+use Rattle.trace.specs.File.{rowLimit}
 use Rattle.trace.specs.Rows.{choose, rowAt}
 use Rattle.earlier.specs.declared.Heard.{Heard}
 use Rattle.closure.specs.Closure.{rowMarked, zeros}
@@ -31,8 +32,8 @@ module _ (file known : List ℕ) where
   abbrev pub Right : Made → Bool → Type 0
   Right t b = (t .is ≡ b) × SoundMarks file known (t .marks)
 
-  pub none-sound : SoundMarks file known (zeros 1024)
-  none-sound x m = absurd (none-marked 1024 x m)
+  pub none-sound : SoundMarks file known (zeros rowLimit)
+  none-sound x m = absurd (none-marked rowLimit x m)
 
   set-sound : (ms : List ℕ) (r : ℕ) → canMake file known r ≡ true → SoundMarks file known ms → SoundMarks file known (set ms r 1)
   set-sound ms r c s x m = go (ℕ-discrete x r)
@@ -91,10 +92,10 @@ module _ (file known : List ℕ) where
   unfolding makeRow
   make-right zero ms row l s = absurd (omega arith)
   make-right (suc d) ms row l s =
-      by-test (rowMarked known row) (rowMarked ms row) (leb 1024 row) refl refl refl
+      by-test (rowMarked known row) (rowMarked ms row) (leb rowLimit row) refl refl refl
       (λ c. with-right row (λ ms x. makeRow file known d ms x) (λ ms′ x h s′. make-right d ms′ x (omega arith) s′) ms (partsOf known (rowAt file row)) c s)
     where
-      by-test : (k m p : Bool) → rowMarked known row ≡ k → rowMarked ms row ≡ m → leb 1024 row ≡ p →
+      by-test : (k m p : Bool) → rowMarked known row ≡ k → rowMarked ms row ≡ m → leb rowLimit row ≡ p →
           ((canOf file known row (partsOf known (rowAt file row)) ≡ true → canMake file known row ≡ true) →
           Right (makeWith (λ ms x. makeRow file known d ms x) ms row (partsOf known (rowAt file row))) (canOf file known row (partsOf known (rowAt file row)))) →
           Right (elim (k || m) as (λ _. Made) [
@@ -106,9 +107,9 @@ module _ (file known : List ℕ) where
           ]) (canMake file known row)
       by-test true m p ek em ep ih = (sym (known-made file known row ek), s)
       by-test false true p ek em ep ih = (sym (s row em), s)
-      by-test false false true ek em ep ih = (sym (far-not-made file known (suc row) row (leb-true 1024 row ep)), s)
+      by-test false false true ek em ep ih = (sym (far-not-made file known (suc row) row (leb-true rowLimit row ep)), s)
       by-test false false false ek em ep ih =
-          let e = parts-made file known row (leb-false 1024 row ep) ek in
+          let e = parts-made file known row (leb-false rowLimit row ep) ek in
           let q = ih (λ t. e ∙ t) in
           (q .0 ∙ sym e, q .1)
 

@@ -9,7 +9,7 @@ use native.Mathlib.Decide.{ℕ-discrete, decLt}
 use lib.Dec.{eqb, ltb, leb}
 use lib.ListN.{length, getD, set}
 use lib.Seq.{getD-set-same, getD-set-other, set-out}
-use Rattle.trace.specs.File.{rowsOf, compromisedIn}
+use Rattle.trace.specs.File.{rowLimit, rowsOf, compromisedIn}
 use Rattle.trace.specs.Rows.{choose, rowAt}
 use Rattle.trace.specs.declared.Row.{Row}
 use Rattle.trace.specs.declared.Row.the-variants.{Agent, Number, Nonce, Prf, PublicKey, PrivateKey, SessionKey, Hash, Crypt, Pair}
@@ -31,7 +31,7 @@ set-kept rs r x m = go (ℕ-discrete x r) (decLt r (length rs))
     go (no d) _ = rw (getD-set-other rs r x 1 0 d) m
     go (yes e) (no l) = rw (set-out rs r 1 (omega arith)) m
     go (yes e) (yes l) =
-        let b = both (ltb x 1024) (eqb (getD rs x 0) 1) m in
+        let b = both (ltb x rowLimit) (eqb (getD rs x 0) 1) m in
         rw (b .0, e, getD-set-same rs r 1 0 l) refl
 
 -- by what a Says or a note of a compromised agent teaches
@@ -56,7 +56,7 @@ module _ (file : List ℕ) where
   learn-kept : (d : ℕ) → Learns (learnRow file d)
   unfolding learnRow
   learn-kept zero rs ks row = λ x m. m
-  learn-kept (suc d) rs ks row = by-test (rowMarked rs row || leb 1024 row) (learn-kept d)
+  learn-kept (suc d) rs ks row = by-test (rowMarked rs row || leb rowLimit row) (learn-kept d)
     where
       by-test : (b : Bool) → Learns (learnRow file d) →
           Kept rs ((elim b as (λ _. State) [
@@ -116,7 +116,7 @@ module _ (file : List ℕ) where
       by-test false g = λ x m. m
 
   row-kept : (rs ks : List ℕ) (row : ℕ) → Kept rs (seeRow file rs ks row .rows)
-  row-kept rs ks row x m = settle-kept 1024 (learnRow file (suc row) rs ks row) x (learn-kept (suc row) rs ks row x m)
+  row-kept rs ks row x m = settle-kept rowLimit (learnRow file (suc row) rs ks row) x (learn-kept (suc row) rs ks row x m)
 
   pub see-kept : (rs ks : List ℕ) (E : Event) → Kept rs (seeEvent file rs ks E .rows)
   see-kept rs ks (Says a b r) = row-kept rs ks (r .0)
@@ -153,9 +153,9 @@ module _ (file known known′ : List ℕ) (kept : Kept known known′) where
   swept-more : (n x : ℕ) → made (swept file known n) x ≡ true → made (swept file known′ n) x ≡ true
   unfolding writeMarks
   swept-more zero x e = e
-  swept-more (suc n) x e = go (ℕ-discrete x n) (decLt n 1024) (swept-more n)
+  swept-more (suc n) x e = go (ℕ-discrete x n) (decLt n rowLimit) (swept-more n)
     where
-      go : Dec (x ≡ n) → Dec (n < 1024) → ((y : ℕ) → made (swept file known n) y ≡ true → made (swept file known′ n) y ≡ true) →
+      go : Dec (x ≡ n) → Dec (n < rowLimit) → ((y : ℕ) → made (swept file known n) y ≡ true → made (swept file known′ n) y ≡ true) →
           made (swept file known′ (suc n)) x ≡ true
       go (no d) _ ih = swept-other file known′ n x d ∙ ih x (sym (swept-other file known n x d) ∙ e)
       go (yes q) (no l) ih = absurd (true≢false (sym e ∙ far-not-made file known (suc n) x (omega arith)))

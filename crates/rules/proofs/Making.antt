@@ -12,6 +12,7 @@ use lib.Dec.{eqb, ltb}
 use lib.ListN.{length, getD, length-replicate, getD-replicate, List·getD-eq-default}
 use lib.Seq.{getD-set-same, getD-set-other}
 use borrow.Author.Tests.{ltb-true, lt-ltb, le-ltb}
+use Rattle.trace.specs.File.{rowLimit}
 use Rattle.trace.specs.Rows.{choose, rowAt}
 use Rattle.trace.specs.declared.Row.{Row}
 use Rattle.trace.specs.declared.Row.the-variants.{Agent, Number, Nonce, Prf, PublicKey, PrivateKey, SessionKey, Hash, Crypt, Pair}
@@ -33,22 +34,22 @@ twice : (b : Bool) → b ≡ (b && b)
 twice true = refl
 twice false = refl
 
-zero-not-made : (x : ℕ) → made (zeros 1024) x ≡ false
-zero-not-made x = go (decLt x 1024)
+zero-not-made : (x : ℕ) → made (zeros rowLimit) x ≡ false
+zero-not-made x = go (decLt x rowLimit)
   where
-    go : Dec (x < 1024) → made (zeros 1024) x ≡ false
-    go (yes l) = rw (getD-replicate {A = ℕ} 1024 x 0 0 l)
-    go (no l) = rw (List·getD-eq-default (zeros 1024) 0 {n = x} (omega (arith, length-replicate {A = ℕ} 1024 0)))
+    go : Dec (x < rowLimit) → made (zeros rowLimit) x ≡ false
+    go (yes l) = rw (getD-replicate {A = ℕ} rowLimit x 0 0 l)
+    go (no l) = rw (List·getD-eq-default (zeros rowLimit) 0 {n = x} (omega (arith, length-replicate {A = ℕ} rowLimit 0)))
 
 module _ (file known : List ℕ) where
   abbrev pub swept : ℕ → List ℕ
-  swept n = writeMarks file known n (zeros 1024)
+  swept n = writeMarks file known n (zeros rowLimit)
 
-  swept-length : (n : ℕ) → length (swept n) ≡ 1024
-  swept-length n = marks-length file known n (zeros 1024) ∙ length-replicate {A = ℕ} 1024 0
+  swept-length : (n : ℕ) → length (swept n) ≡ rowLimit
+  swept-length n = marks-length file known n (zeros rowLimit) ∙ length-replicate {A = ℕ} rowLimit 0
 
   -- row n, after the sweep's step there
-  pub swept-here : (n : ℕ) → n < 1024 → made (swept (suc n)) n ≡ choose (rowMarked known n) true (makes known (swept n) (rowAt file n))
+  pub swept-here : (n : ℕ) → n < rowLimit → made (swept (suc n)) n ≡ choose (rowMarked known n) true (makes known (swept n) (rowAt file n))
   unfolding writeMarks
   swept-here n l =
       rw (getD-set-same (swept n) n (markOf file known (swept n) n) 0 (omega (arith, swept-length n)))
@@ -58,12 +59,12 @@ module _ (file known : List ℕ) where
   unfolding writeMarks
   swept-other n x d = rw (getD-set-other (swept n) n x (markOf file known (swept n) n) 0 d)
 
-  pub far-not-made : (n x : ℕ) → 1024 ≤ x → made (swept n) x ≡ false
+  pub far-not-made : (n x : ℕ) → rowLimit ≤ x → made (swept n) x ≡ false
   far-not-made n x l = rw (List·getD-eq-default (swept n) 0 {n = x} (omega (arith, swept-length n)))
 
   pub known-made : (r : ℕ) → rowMarked known r ≡ true → canMake file known r ≡ true
   known-made r t =
-      let l = ltb-true r 1024 (both (ltb r 1024) (eqb (getD known r 0) 1) t .0) in
+      let l = ltb-true r rowLimit (both (ltb r rowLimit) (eqb (getD known r 0) 1) t .0) in
       swept-here r l ∙ rw t refl
 
   -- the sweep changes a row at its own step only
@@ -112,5 +113,5 @@ module _ (file known : List ℕ) where
   parts-is row (Crypt k x) = crypt-is row (x .0) (rowMarked known (k .0))
   parts-is row (Pair x y) = rw (below-is row (x .0), below-is row (y .0)) refl
 
-  pub parts-made : (row : ℕ) → row < 1024 → rowMarked known row ≡ false → canMake file known row ≡ canOf row (partsOf known (rowAt file row))
+  pub parts-made : (row : ℕ) → row < rowLimit → rowMarked known row ≡ false → canMake file known row ≡ canOf row (partsOf known (rowAt file row))
   parts-made row l u = swept-here row l ∙ rw u (parts-is row (rowAt file row))

@@ -6,6 +6,7 @@ use mathlib.Core.List.{List}
 use mathlib.Core.Path.{_≡_}
 use lib.Dec.{eqb, ltb, leb}
 use lib.ListN.{set}
+use Rattle.trace.specs.File.{rowLimit}
 use Rattle.trace.specs.Rows.{choose, rowAt}
 use Rattle.trace.specs.declared.Row.{Row}
 use Rattle.trace.specs.declared.Row.the-variants.{Agent, Number, Nonce, Prf, PublicKey, PrivateKey, SessionKey, Hash, Crypt, Pair}
@@ -66,7 +67,7 @@ makeRow file known (suc d) marks row =
     elim (rowMarked known row || rowMarked marks row) [
       | true ↦ told marks true
       | false ↦
-          elim (leb 1024 row) [
+          elim (leb rowLimit row) [
             | true ↦ told marks false
             | false ↦ makeWith (λ ms x. makeRow file known d ms x) marks row (partsOf known (rowAt file row))
           ]

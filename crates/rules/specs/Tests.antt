@@ -4,6 +4,7 @@ use Prim.Native.Nat.{ℕ, suc}
 use mathlib.Core.Bool.{Bool, _&&_, not}
 use mathlib.Core.List.{List}
 use lib.Dec.{eqb}
+use Rattle.trace.specs.File.{rowLimit}
 use Rattle.closure.specs.Closure.{rowMarked, zeros}
 use Rattle.spy.specs.Made.{made, writeMarks}
 use Rattle.forms.specs.Kinds.{cryptOf, publicOf, sessionOf, isPlain}
@@ -19,7 +20,7 @@ fresh file used r = isPlain file r && not (rowMarked used r)
 
 -- the spy can make row r
 abbrev pub canMake : List ℕ → (known : List ℕ) → ℕ → Bool
-canMake file known r = made (writeMarks file known (suc r) (zeros 1024)) r
+canMake file known r = made (writeMarks file known (suc r) (zeros rowLimit)) r
 
 unfoldable pub fake : List ℕ → (known : List ℕ) → Heard → Bool
 fake file known h = h .says && eqb (h .from) 0 && canMake file known (h .row)

@@ -5,6 +5,8 @@ mod synth;
 use closure::row_marked;
 use earlier::Heard;
 use earlier::Wanted;
+use earlier::boxes::BOX_ROOM;
+use trace::limits::ROW_LIMIT;
 ghost use mathlib.Core.Path.{_≡_};
 ghost use Rattle.earlier.specs.Boxes.{found};
 ghost use Rattle.rules.specs.Tests as tests;
@@ -13,7 +15,7 @@ ghost use Rattle.rules.specs.Making.{told, tryFake};
 const SPY: u16 = 0;
 
 // Whether a row is a plain nonce that no event before used.
-fn is_fresh(file: &[u8], used: &[u8; 1024], r: u16) -> bool
+fn is_fresh(file: &[u8], used: &[u8; ROW_LIMIT], r: u16) -> bool
     ensures { λ b. ⌜ b ≡ tests.fresh (now (file .entry)) (now (used .entry)) r ⌝ }
 {
     let plain = forms::leaves::is_plain(file, r);
@@ -22,7 +24,7 @@ fn is_fresh(file: &[u8], used: &[u8; 1024], r: u16) -> bool
 }
 
 // Rule 1: the spy says what it can make. `made` holds rows that it can make, and gets more.
-pub fn fake(file: &[u8], known: &[u8; 1024], made: &mut [u8; 1024], h: Heard) -> bool
+pub fn fake(file: &[u8], known: &[u8; ROW_LIMIT], made: &mut [u8; ROW_LIMIT], h: Heard) -> bool
     ensures { λ b. ⌜ told (now (made .exit)) b ≡
         tryFake (now (file .entry)) (now (known .entry)) (now (made .entry)) h ⌝ }
 {
@@ -34,7 +36,7 @@ pub fn fake(file: &[u8], known: &[u8; 1024], made: &mut [u8; 1024], h: Heard) ->
 }
 
 // Rule 2: the spy notes keys of nonces that it knows.
-pub fn spy_keys(file: &[u8], known: &[u8; 1024], h: Heard) -> bool
+pub fn spy_keys(file: &[u8], known: &[u8; ROW_LIMIT], h: Heard) -> bool
     ensures { λ b. ⌜ b ≡ tests.spyKeys (now (file .entry)) (now (known .entry)) h ⌝ }
 {
     let noted = earlier::noted_by(h, SPY);
@@ -50,7 +52,7 @@ pub fn spy_keys(file: &[u8], known: &[u8; 1024], h: Heard) -> bool
 }
 
 // Rule 3: CH with a fresh nonce.
-pub fn client_hello(file: &[u8], used: &[u8; 1024], h: Heard) -> bool
+pub fn client_hello(file: &[u8], used: &[u8; ROW_LIMIT], h: Heard) -> bool
     ensures { λ b. ⌜ b ≡ tests.clientHello (now (file .entry)) (now (used .entry)) h ⌝ }
 {
     if h.says {
@@ -63,7 +65,7 @@ pub fn client_hello(file: &[u8], used: &[u8; 1024], h: Heard) -> bool
 }
 
 // Rule 4: SH with a fresh nonce, to the agent of a CH.
-pub fn server_hello(file: &[u8], boxes: &[u16; 5248], used: &[u8; 1024], h: Heard) -> bool
+pub fn server_hello(file: &[u8], boxes: &[u16; BOX_ROOM], used: &[u8; ROW_LIMIT], h: Heard) -> bool
     ensures { λ b. ⌜ b ≡ tests.serverHello (now (file .entry)) (now (used .entry)) (found (now (file .entry)) (now (boxes .entry))) h ⌝ }
 {
     if h.says {
@@ -95,8 +97,8 @@ pub fn certificate(file: &[u8], h: Heard) -> bool
 // Rule 6: a fresh secret noted, and then sent under the key of a certificate.
 pub fn key_exchange(
     file: &[u8],
-    boxes: &[u16; 5248],
-    used: &[u8; 1024],
+    boxes: &[u16; BOX_ROOM],
+    used: &[u8; ROW_LIMIT],
     note: Heard,
     said: Heard,
 ) -> bool
@@ -118,7 +120,7 @@ pub fn key_exchange(
 }
 
 // Rule 7: the nonce of an SH and a secret of one's own, signed.
-pub fn cert_verify(file: &[u8], boxes: &[u16; 5248], h: Heard) -> bool
+pub fn cert_verify(file: &[u8], boxes: &[u16; BOX_ROOM], h: Heard) -> bool
     ensures { λ b. ⌜ b ≡ tests.certVerify (now (file .entry)) (found (now (file .entry)) (now (boxes .entry))) h ⌝ }
 {
     if h.says {
@@ -139,7 +141,7 @@ pub fn cert_verify(file: &[u8], boxes: &[u16; 5248], h: Heard) -> bool
 }
 
 // Rule 14: a session key that one spoke under, lost to the spy.
-pub fn oops(file: &[u8], boxes: &[u16; 5248], h: Heard) -> bool
+pub fn oops(file: &[u8], boxes: &[u16; BOX_ROOM], h: Heard) -> bool
     ensures { λ b. ⌜ b ≡ tests.oops (now (file .entry)) (found (now (file .entry)) (now (boxes .entry))) h ⌝ }
 {
     if (h.says) & (h.to == SPY) {

@@ -3,12 +3,12 @@
 use closure::row_marked;
 use trace::Row;
 use trace::RowNo;
+use trace::limits::ROW_LIMIT;
+use trace::limits::ROWS;
 ghost use mathlib.Core.Path.{_≡_};
 ghost use Prim.Native.Nat.{suc};
 ghost use Rattle.trace.specs.Rows.{rowAt};
 ghost use Rattle.rules.specs.Making.{told, leafOf, twoOf, partsOf, madeBelow, makeRow};
-
-const ROWS: u16 = 1024;
 
 // What a row is made from: a leaf of nothing, where `can` is the answer, any other of two lower rows.
 struct Parts {
@@ -40,7 +40,7 @@ fn two(left: u16, right: u16) -> Parts
     }
 }
 
-fn parts_of(file: &[u8], known: &[u8; 1024], row: u16) -> Parts
+fn parts_of(file: &[u8], known: &[u8; ROW_LIMIT], row: u16) -> Parts
     ensures { λ p. ⌜ p ≡ partsOf (now (known .entry)) (rowAt (now (file .entry)) row) ⌝ }
 {
     let kind = trace::row_at(file, RowNo(row));
@@ -61,7 +61,7 @@ fn parts_of(file: &[u8], known: &[u8; 1024], row: u16) -> Parts
     }
 }
 
-pub fn make(file: &[u8], known: &[u8; 1024], made: &mut [u8; 1024], row: u16) -> bool
+pub fn make(file: &[u8], known: &[u8; ROW_LIMIT], made: &mut [u8; ROW_LIMIT], row: u16) -> bool
     ensures { λ b. ⌜ told (now (made .exit)) b ≡
         makeRow (now (file .entry)) (now (known .entry)) (suc row) (now (made .entry)) row ⌝ }
 {
@@ -93,7 +93,13 @@ pub fn make(file: &[u8], known: &[u8; 1024], made: &mut [u8; 1024], row: u16) ->
 }
 
 // A side that is not below the row is not made.
-fn make_below(file: &[u8], known: &[u8; 1024], made: &mut [u8; 1024], row: u16, x: u16) -> bool
+fn make_below(
+    file: &[u8],
+    known: &[u8; ROW_LIMIT],
+    made: &mut [u8; ROW_LIMIT],
+    row: u16,
+    x: u16,
+) -> bool
     ensures { λ b. ⌜ told (now (made .exit)) b ≡
         madeBelow (makeRow (now (file .entry)) (now (known .entry)) row) (now (made .entry)) row x ⌝ }
 {

@@ -1,11 +1,14 @@
 // The spy: what it knows and can make, after any number of events.
 pub mod made;
 
+use closure::KEYS;
 use trace::Cause;
 use trace::EventNo;
 use trace::Reading;
+use trace::limits::ROW_LIMIT;
 ghost use mathlib.Core.Path.{_≡_};
-ghost use Rattle.closure.specs.Closure.{knownAfter, zeros};
+ghost use Rattle.trace.specs.File.{rowLimit};
+ghost use Rattle.closure.specs.Closure.{keyRoom, knownAfter, zeros};
 ghost use Rattle.spy.specs.Knowledge.{Knows, marksAfter, answerReadable, bytesReadable};
 
 pub enum Answer {
@@ -14,9 +17,9 @@ pub enum Answer {
 }
 
 // What is known after the first n events, in arrays of zeros.
-fn know(file: &[u8], rows: &mut [u8; 1024], keys: &mut [u8; 128], n: u16)
-    requires { ⌜ now rows ≡ zeros 1024 ⌝ }
-    requires { ⌜ now keys ≡ zeros 128 ⌝ }
+fn know(file: &[u8], rows: &mut [u8; ROW_LIMIT], keys: &mut [u8; KEYS], n: u16)
+    requires { ⌜ now rows ≡ zeros rowLimit ⌝ }
+    requires { ⌜ now keys ≡ zeros keyRoom ⌝ }
     ensures { λ _. ⌜ now (rows .exit) ≡ knownAfter (now (file .entry)) n .rows ⌝ }
     ensures { λ _. ⌜ now (keys .exit) ≡ knownAfter (now (file .entry)) n .keys ⌝ }
 {
@@ -32,8 +35,8 @@ fn know(file: &[u8], rows: &mut [u8; 1024], keys: &mut [u8; 128], n: u16)
 fn write(file: &[u8], n: u16, buffer: &mut [u8])
     ensures { λ _. ⌜ now (buffer .exit) ≡ marksAfter (now (file .entry)) n (now (buffer .entry)) ⌝ }
 {
-    let mut rows = [0u8; 1024];
-    let mut keys = [0u8; 128];
+    let mut rows = [0u8; ROW_LIMIT];
+    let mut keys = [0u8; KEYS];
     know(file, &mut rows, &mut keys, n);
     made::write_marks(file, &rows, buffer, trace::row_count(file));
 }

@@ -1,6 +1,7 @@
 // What the spy can make: one sweep from the lowest row up, over the rows that it knows.
 use closure::row_marked;
 use trace::RowNo;
+use trace::limits::ROW_LIMIT;
 use trace::rows::fields_at;
 ghost use mathlib.Core.Path.{_≡_};
 ghost use lib.ListN.{set};
@@ -31,7 +32,7 @@ fn row_made(marks: &[u8], x: RowNo) -> bool
 }
 
 // Whether a row that is not known can be made.
-fn can_make(file: &[u8], rows: &[u8; 1024], marks: &[u8], r: u16) -> bool
+fn can_make(file: &[u8], rows: &[u8; ROW_LIMIT], marks: &[u8], r: u16) -> bool
     ensures { λ b. ⌜ b ≡ makes (now (rows .entry)) (now (marks .entry)) (rowAt (now (file .entry)) r) ⌝ }
 {
     let f = fields_at(file, r);
@@ -51,7 +52,7 @@ fn can_make(file: &[u8], rows: &[u8; 1024], marks: &[u8], r: u16) -> bool
     left & right
 }
 
-fn mark_of(file: &[u8], rows: &[u8; 1024], marks: &[u8], r: u16) -> u8
+fn mark_of(file: &[u8], rows: &[u8; ROW_LIMIT], marks: &[u8], r: u16) -> u8
     ensures { λ m. ⌜ m ≡ markOf (now (file .entry)) (now (rows .entry)) (now (marks .entry)) r ⌝ }
 {
     let known = row_marked(rows, r);
@@ -72,7 +73,7 @@ fn put(marks: &mut [u8], at: usize, mark: u8)
 }
 
 // A mark for each of the first n rows; the rest of the buffer keeps its content.
-pub fn write_marks(file: &[u8], rows: &[u8; 1024], marks: &mut [u8], n: u16)
+pub fn write_marks(file: &[u8], rows: &[u8; ROW_LIMIT], marks: &mut [u8], n: u16)
     ensures { λ _. ⌜ now (marks .exit) ≡ writeMarks (now (file .entry)) (now (rows .entry)) n (now (marks .entry)) ⌝ }
 {
     let mut r: u16 = 0;

@@ -9,6 +9,7 @@ use native.Mathlib.Omega.{arith}
 use lib.Dec.{ltb, leb}
 use borrow.Author.Tests.{ltb-true, lt-ltb, le-ltb, le-leb, lt-leb}
 use lib.ListN.{set}
+use Rattle.trace.specs.File.{rowLimit}
 use Rattle.trace.specs.Rows.{rowAt}
 use Rattle.trace.proofs.Both.{or-true}
 use Rattle.trace.proofs.First.{lt-suc}
@@ -33,7 +34,7 @@ module _ (file : List ℕ) where
   unfolding useRow
   deeper zero ms row l = absurd (omega arith)
   deeper (suc d) ms row l =
-      by-test (rowMarked ms row || leb 1024 row)
+      by-test (rowMarked ms row || leb rowLimit row)
       (with-same (useRow file (suc d)) (useRow file d) row (λ ms′ x h. deeper d ms′ x (omega arith)) ms (partsOf row (rowAt file row)))
     where
       by-test : (b : Bool) → {s t : List ℕ} → s ≡ t →
@@ -51,18 +52,18 @@ module _ (file : List ℕ) where
     unfolding useRow
     use-known e = rw (e, useRow)
 
-    pub use-past : 1024 ≤ row → ms ≡ useRow file (suc row) ms row
+    pub use-past : rowLimit ≤ row → ms ≡ useRow file (suc row) ms row
     unfolding useRow
-    use-past l = rw (le-leb 1024 row l, or-true (rowMarked ms row), useRow)
+    use-past l = rw (le-leb rowLimit row l, or-true (rowMarked ms row), useRow)
 
-    pub use-new : rowMarked ms row ≡ false → row < 1024 →
+    pub use-new : rowMarked ms row ≡ false → row < rowLimit →
         (halves : Halves) → halves ≡ partsOf row (rowAt file row) →
         (ls : List ℕ) → ls ≡ usedBelow (useRow file row) ms row (halves .left) →
         (rs : List ℕ) → rs ≡ usedBelow (useRow file row) ls row (halves .right) →
         set rs row 1 ≡ useRow file (suc row) ms row
     unfolding useRow
     use-new unmarked room halves he ls le rs re =
-        rw (unmarked, lt-leb 1024 row room, useRow, ← he, ← le, ← re)
+        rw (unmarked, lt-leb rowLimit row room, useRow, ← he, ← le, ← re)
 
     pub below-taken : (x : ℕ) → x < row → useRow file (suc x) ms x ≡ usedBelow (useRow file row) ms row x
     below-taken x l = rw (lt-ltb x row l, usedBelow) (sym (any-depth row ms x l))

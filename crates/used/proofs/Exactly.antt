@@ -10,7 +10,7 @@ use Rattle.paper.specs.Message as paper
 use Rattle.paper.specs.Event as event
 use Rattle.paper.specs.Event.{trace, In, here, there}
 use Rattle.paper.specs.Used.{Part, self, left, right, body, Used, inSays, inNotes}
-use Rattle.trace.specs.File.{rowsOf, eventsOf}
+use Rattle.trace.specs.File.{rowLimit, rowsOf, eventsOf}
 use Rattle.trace.specs.Rows.{rowAt}
 use Rattle.trace.specs.Events.{eventAt}
 use Rattle.trace.specs.Meaning.{message, eventMeant, beginning}
@@ -64,7 +64,7 @@ module _ (file : List ℕ) (P : Promised file) where
   Has ms X = (x : ℕ) × (x < rowsOf file) × (message file x ≡ X) × Marked ms x
 
   record Good (evs : trace) (ms : List ℕ) : Type 0 where
-    room : length ms ≡ 1024
+    room : length ms ≡ rowLimit
     sound : (x : ℕ) → x < rowsOf file → Marked ms x → UsedRow evs x
     closed : (x : ℕ) → Closed file ms x
     said : {A B : paper.agent} {Y : paper.msg} → In (event.Says A B Y) evs → Has ms Y
@@ -160,9 +160,9 @@ module _ (file : List ℕ) (P : Promised file) where
   unfolding beginning usedAfter
   good-after zero h =
       record {
-        room = length-replicate {A = ℕ} 1024 0;
-        sound = λ x l m. absurd (none-marked 1024 x m);
-        closed = λ x m. absurd (none-marked 1024 x m);
+        room = length-replicate {A = ℕ} rowLimit 0;
+        sound = λ x l m. absurd (none-marked rowLimit x m);
+        closed = λ x m. absurd (none-marked rowLimit x m);
         said = elim [ ];
         noted = elim [ ];
       }

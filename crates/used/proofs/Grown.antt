@@ -11,6 +11,7 @@ use native.Mathlib.Decide.{ℕ-discrete}
 use lib.Dec.{ltb}
 use lib.ListN.{length, set, length-set}
 use borrow.Author.Tests.{ltb-true, lt-ltb, lt-leb}
+use Rattle.trace.specs.File.{rowLimit}
 use Rattle.trace.specs.Rows.{rowAt}
 use Rattle.trace.specs.declared.Row.{Row}
 use Rattle.trace.proofs.First.{bool-cases}
@@ -26,17 +27,17 @@ abbrev pub Closed : List ℕ → List ℕ → ℕ → Type 0
 Closed file ms x = Marked ms x → Sides (Marked ms) x (rowAt file x)
 
 -- H goes with a row to its parts, in a file of n rows
-module _ (file : List ℕ) (n : ℕ) (few : n ≤ 1024) (H : ℕ → Type 0) (parts : (x : ℕ) → x < n → H x → Sides H x (rowAt file x)) where
+module _ (file : List ℕ) (n : ℕ) (few : n ≤ rowLimit) (H : ℕ → Type 0) (parts : (x : ℕ) → x < n → H x → Sides H x (rowAt file x)) where
   abbrev Sound : List ℕ → Type 0
   Sound ms = (x : ℕ) → x < n → Marked ms x → H x
 
   pub record Grew (ms ms′ : List ℕ) : Type 0 where
-    pub room : length ms′ ≡ 1024
+    pub room : length ms′ ≡ rowLimit
     pub rows : (x : ℕ) → Marked ms x → Marked ms′ x
     pub closed : (x : ℕ) → Closed file ms x → Closed file ms′ x
     pub sound : ((x : ℕ) → x < n → Marked ms x → H x) → (x : ℕ) → x < n → Marked ms′ x → H x
 
-  grew-still : (ms : List ℕ) → length ms ≡ 1024 → Grew ms ms
+  grew-still : (ms : List ℕ) → length ms ≡ rowLimit → Grew ms ms
   grew-still ms r = record { room = r; rows = λ x m. m; closed = λ x c. c; sound = λ s. s }
 
   grew-then : {ms ms′ ms″ : List ℕ} → Grew ms ms′ → Grew ms′ ms″ → Grew ms ms″
@@ -79,14 +80,14 @@ module _ (file : List ℕ) (n : ℕ) (few : n ≤ 1024) (H : ℕ → Type 0) (pa
   -- using a row, as far as a depth goes
   abbrev Uses : ℕ → Type 0
   Uses d =
-      (ms : List ℕ) (row : ℕ) → length ms ≡ 1024 → row < n → H row → row < d →
+      (ms : List ℕ) (row : ℕ) → length ms ≡ rowLimit → row < n → H row → row < d →
       Grew ms (useRow file d ms row) × Marked (useRow file d ms row) row
 
   module _ (d : ℕ) (uses : Uses d) (row : ℕ) (in-file : row < n) (deep : row ≤ d) where
     abbrev go : List ℕ → ℕ → List ℕ
     go = useRow file d
 
-    below-cases : (ms : List ℕ) (x : ℕ) → length ms ≡ 1024 → (x < row → H x) → (b : Bool) → ltb x row ≡ b →
+    below-cases : (ms : List ℕ) (x : ℕ) → length ms ≡ rowLimit → (x < row → H x) → (b : Bool) → ltb x row ≡ b →
         Grew ms (elim b [ true ↦ go ms x | false ↦ ms ]) × (x < row → Marked (elim b as (λ _. List ℕ) [ true ↦ go ms x | false ↦ ms ]) x)
     below-cases ms x r h true e =
         let l = ltb-true x row e in
@@ -94,11 +95,11 @@ module _ (file : List ℕ) (n : ℕ) (few : n ≤ 1024) (H : ℕ → Type 0) (pa
         (g .0, λ _. g .1)
     below-cases ms x r h false e = (grew-still ms r, λ l. absurd (true≢false (sym (lt-ltb x row l) ∙ e)))
 
-    below-grew : (ms : List ℕ) (x : ℕ) → length ms ≡ 1024 → (x < row → H x) →
+    below-grew : (ms : List ℕ) (x : ℕ) → length ms ≡ rowLimit → (x < row → H x) →
         Grew ms (usedBelow go ms row x) × (x < row → Marked (usedBelow go ms row x) x)
     below-grew ms x r h = below-cases ms x r h (ltb x row) refl
 
-    with-grew : (ms : List ℕ) → length ms ≡ 1024 → H row →
+    with-grew : (ms : List ℕ) → length ms ≡ rowLimit → H row →
         Grew ms (useWith go ms row (partsOf row (rowAt file row))) × Marked (useWith go ms row (partsOf row (rowAt file row))) row
     with-grew ms r has =
         let s = partsOf row (rowAt file row) in
@@ -111,12 +112,12 @@ module _ (file : List ℕ) (n : ℕ) (few : n ≤ 1024) (H : ℕ → Type 0) (pa
           row-same c (g .0 .room) row (omega arith),
         )
 
-  use-cases : (d : ℕ) → Uses d → (ms : List ℕ) (row : ℕ) → length ms ≡ 1024 → row < n → H row → row ≤ d →
+  use-cases : (d : ℕ) → Uses d → (ms : List ℕ) (row : ℕ) → length ms ≡ rowLimit → row < n → H row → row ≤ d →
       (rowMarked ms row ≡ true) ⊎ (rowMarked ms row ≡ false) →
       Grew ms (useRow file (suc d) ms row) × Marked (useRow file (suc d) ms row) row
   unfolding useRow
   use-cases d uses ms row r l has h (inl m) = rw (m, useRow) (grew-still ms r, m)
-  use-cases d uses ms row r l has h (inr u) = rw (u, lt-leb 1024 row (omega arith), useRow) (with-grew d uses row l h ms r has)
+  use-cases d uses ms row r l has h (inr u) = rw (u, lt-leb rowLimit row (omega arith), useRow) (with-grew d uses row l h ms r has)
 
   pub uses : (d : ℕ) → Uses d
   uses zero ms row r l has h = absurd (omega arith)

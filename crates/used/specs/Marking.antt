@@ -4,6 +4,7 @@ use mathlib.Core.Bool.{true, false, _||_}
 use mathlib.Core.List.{List}
 use lib.Dec.{ltb, leb}
 use lib.ListN.{set}
+use Rattle.trace.specs.File.{rowLimit}
 use Rattle.trace.specs.Rows.{rowAt}
 use Rattle.trace.specs.Events.{eventAt}
 use Rattle.trace.specs.declared.Event.{Event}
@@ -39,7 +40,7 @@ useWith go marks row halves = set (usedBelow go (usedBelow go marks row (halves 
 unfoldable pub useRow : List ℕ → ℕ → (marks : List ℕ) → ℕ → List ℕ
 useRow file zero marks row = marks
 useRow file (suc d) marks row =
-    elim (rowMarked marks row || leb 1024 row) [
+    elim (rowMarked marks row || leb rowLimit row) [
       | true ↦ marks
       | false ↦ useWith (λ ms x. useRow file d ms x) marks row (partsOf row (rowAt file row))
     ]
@@ -51,5 +52,5 @@ useEvent file marks (Notes a r) = useRow file (suc (r .0)) marks (r .0)
 
 -- the rows that are used after the first n events
 unfoldable pub usedAfter : List ℕ → ℕ → List ℕ
-usedAfter file zero = zeros 1024
+usedAfter file zero = zeros rowLimit
 usedAfter file (suc n) = useEvent file (usedAfter file n) (eventAt file n)

@@ -4,14 +4,14 @@
 // of a marked row are marked.
 use trace::Event;
 use trace::EventNo;
+use trace::limits::ROW_LIMIT;
+use trace::limits::ROWS;
 use trace::rows::fields_at;
 ghost use mathlib.Core.Path.{_≡_};
 ghost use Prim.Native.Nat.{suc};
 ghost use Rattle.trace.specs.Rows.{rowAt};
 ghost use Rattle.trace.specs.Events.{eventAt};
 ghost use Rattle.used.specs.Marking.{partsOf, usedBelow, useRow, useEvent};
-
-const ROWS: u16 = 1024;
 
 // The kinds that have parts; a kind above 9 reads as a Pair.
 const CRYPT: u16 = 8;
@@ -47,7 +47,7 @@ fn halves_of(file: &[u8], row: u16) -> Halves
 }
 
 // Marks a row and its parts. A row that is marked has its parts marked, so shared rows are walked once.
-fn mark_used(file: &[u8], rows: &mut [u8; 1024], row: u16)
+fn mark_used(file: &[u8], rows: &mut [u8; ROW_LIMIT], row: u16)
     ensures { λ _. ⌜ now (rows .exit) ≡ useRow (now (file .entry)) (suc row) (now (rows .entry)) row ⌝ }
 {
     let known = closure::row_marked(rows, row);
@@ -63,7 +63,7 @@ fn mark_used(file: &[u8], rows: &mut [u8; 1024], row: u16)
     rows[row as usize] = 1;
 }
 
-fn mark_below(file: &[u8], rows: &mut [u8; 1024], row: u16, x: u16)
+fn mark_below(file: &[u8], rows: &mut [u8; ROW_LIMIT], row: u16, x: u16)
     ensures { λ _. ⌜ now (rows .exit) ≡ usedBelow (useRow (now (file .entry)) row) (now (rows .entry)) row x ⌝ }
 {
     if x < row {
@@ -72,7 +72,7 @@ fn mark_below(file: &[u8], rows: &mut [u8; 1024], row: u16, x: u16)
 }
 
 // An event uses the parts of its message, a note of an honest agent too.
-pub fn use_event(file: &[u8], rows: &mut [u8; 1024], e: EventNo)
+pub fn use_event(file: &[u8], rows: &mut [u8; ROW_LIMIT], e: EventNo)
     ensures { λ _. ⌜ now (rows .exit) ≡
         useEvent (now (file .entry)) (now (rows .entry)) (eventAt (now (file .entry)) (e .0)) ⌝ }
 {

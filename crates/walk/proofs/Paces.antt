@@ -10,9 +10,9 @@ use lib.Dec.{ltb}
 use lib.ListN.{length, set, length-set}
 use borrow.Author.Tests.{lt-ltb, le-ltb, ltb-true}
 use Rattle.trace.specs.Rows.{choose}
-use Rattle.trace.specs.File.{rowsOf, eventsOf}
+use Rattle.trace.specs.File.{rowLimit, eventLimit, agentLimit, rowsOf, eventsOf}
 use Rattle.trace.specs.Events.{eventAt}
-use Rattle.closure.specs.Closure.{seeEvent, startKeys, startRows, zeros}
+use Rattle.closure.specs.Closure.{keyRoom, seeEvent, startKeys, startRows, zeros}
 use Rattle.closure.proofs.Folds.{known-start, known-more}
 use Rattle.used.specs.Marking.{useEvent, usedAfter}
 use Rattle.earlier.specs.declared.Heard.{Heard}
@@ -156,14 +156,14 @@ module _ (rule : ℕ → ℕ) (exchange : ℕ → Bool) (N : ℕ) where
       (rw (t, lt-ltb (suc i) N s, x) refl, rw (t, lt-ltb (suc i) N s, x) refl)
 
 -- the arrays before the first event, and after one more
-pub before-first : (file rs₀ ks₀ rs ks bs : List ℕ) → rs₀ ≡ zeros 1024 → ks₀ ≡ zeros 128 → ks ≡ startKeys file 64 ks₀ →
-    rs ≡ startRows file (startKeys file 64 ks₀) (rowsOf file) rs₀ → (us : List ℕ) → us ≡ zeros 1024 → Boxed file bs 0 → Before file 0 us rs ks bs
+pub before-first : (file rs₀ ks₀ rs ks bs : List ℕ) → rs₀ ≡ zeros rowLimit → ks₀ ≡ zeros keyRoom → ks ≡ startKeys file agentLimit ks₀ →
+    rs ≡ startRows file (startKeys file agentLimit ks₀) (rowsOf file) rs₀ → (us : List ℕ) → us ≡ zeros rowLimit → Boxed file bs 0 → Before file 0 us rs ks bs
 unfolding usedAfter
 before-first file rs₀ ks₀ rs ks bs er ek k r us u x =
     let s = known-start file rs₀ ks₀ rs ks er ek k r in
     record { uses = u; sees = s .0; opens = s .1; kept = x }
 
-pub before-more : (file : List ℕ) (e : ℕ) (us rs ks bs us′ rs′ ks′ bs′ : List ℕ) → e < 512 → Before file e us rs ks bs →
+pub before-more : (file : List ℕ) (e : ℕ) (us rs ks bs us′ rs′ ks′ bs′ : List ℕ) → e < eventLimit → Before file e us rs ks bs →
     us′ ≡ useEvent file us (eventAt file e) →
     (rs′ ≡ seeEvent file rs ks (eventAt file e) .rows) × (ks′ ≡ seeEvent file rs ks (eventAt file e) .keys) →
     bs′ ≡ keptIn file bs e → Before file (suc e) us′ rs′ ks′ bs′

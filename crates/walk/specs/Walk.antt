@@ -4,7 +4,7 @@ use mathlib.Core.Bool.{Bool, true, false, _&&_}
 use mathlib.Core.List.{List}
 use lib.Dec.{ltb}
 use lib.ListN.{set}
-use Rattle.trace.specs.File.{eventsOf}
+use Rattle.trace.specs.File.{eventLimit, eventsOf}
 use Rattle.trace.specs.Rows.{choose}
 use Rattle.walk.specs.Lowest.{ruleOf, exchangeOf}
 
@@ -37,7 +37,7 @@ walk rule exchange events (suc d) i bytes =
 -- over the events of a file
 -- no file that is readable has more than 512 events
 abbrev pub walkable : List ℕ → ℕ
-walkable file = choose (ltb 512 (eventsOf file)) 512 (eventsOf file)
+walkable file = choose (ltb eventLimit (eventsOf file)) eventLimit (eventsOf file)
 
 abbrev pub walkFile : List ℕ → List ℕ → Walked
 walkFile file bytes = walk (ruleOf file) (exchangeOf file) (walkable file) (walkable file) 0 bytes

@@ -1,5 +1,7 @@
 // The lowest rule that fits an event, by what the event is; 0 for none.
 use earlier::Heard;
+use earlier::boxes::BOX_ROOM;
+use trace::limits::ROW_LIMIT;
 ghost use mathlib.Core.Path.{_≡_};
 ghost use Rattle.earlier.specs.Boxes.{found};
 ghost use Rattle.accepts.specs.Hashes.{bothIn};
@@ -7,7 +9,13 @@ ghost use Rattle.rules.specs.Making.{SoundMarks};
 ghost use Rattle.walk.specs.Lowest.{lowestNoted, lowestCrypt, lowestPlain, lowestSaid, lowestRule};
 
 // A note: 2, 10 or 11.
-fn lowest_noted(file: &[u8], boxes: &[u16; 5248], known: &[u8; 1024], e: u16, h: Heard) -> u8
+fn lowest_noted(
+    file: &[u8],
+    boxes: &[u16; BOX_ROOM],
+    known: &[u8; ROW_LIMIT],
+    e: u16,
+    h: Heard,
+) -> u8
     ensures { λ k. ⌜ k ≡ lowestNoted (now (file .entry)) (now (known .entry)) (found (now (file .entry)) (now (boxes .entry))) (bothIn (now (file .entry)) (now (boxes .entry)) e) h ⌝ }
 {
     let two = rules::spy_keys(file, known, h);
@@ -23,7 +31,7 @@ fn lowest_noted(file: &[u8], boxes: &[u16; 5248], known: &[u8; 1024], e: u16, h:
 }
 
 // A Says of a Crypt: 5, 7, 8, 9, 12 or 13.
-fn lowest_crypt(file: &[u8], boxes: &[u16; 5248], h: Heard) -> u8
+fn lowest_crypt(file: &[u8], boxes: &[u16; BOX_ROOM], h: Heard) -> u8
     ensures { λ k. ⌜ k ≡ lowestCrypt (now (file .entry)) (found (now (file .entry)) (now (boxes .entry))) h ⌝ }
 {
     let five = rules::certificate(file, h);
@@ -51,7 +59,7 @@ fn lowest_crypt(file: &[u8], boxes: &[u16; 5248], h: Heard) -> u8
 }
 
 // A Says of another message: 3, 4 or 14.
-fn lowest_plain(file: &[u8], boxes: &[u16; 5248], used: &[u8; 1024], h: Heard) -> u8
+fn lowest_plain(file: &[u8], boxes: &[u16; BOX_ROOM], used: &[u8; ROW_LIMIT], h: Heard) -> u8
     ensures { λ k. ⌜ k ≡ lowestPlain (now (file .entry)) (now (used .entry)) (found (now (file .entry)) (now (boxes .entry))) h ⌝ }
 {
     let three = rules::client_hello(file, used, h);
@@ -69,10 +77,10 @@ fn lowest_plain(file: &[u8], boxes: &[u16; 5248], used: &[u8; 1024], h: Heard) -
 // A Says: 1, or by whether its message is a Crypt. The rows in `made` can be made, and stay so.
 fn lowest_said(
     file: &[u8],
-    boxes: &[u16; 5248],
-    used: &[u8; 1024],
-    known: &[u8; 1024],
-    made: &mut [u8; 1024],
+    boxes: &[u16; BOX_ROOM],
+    used: &[u8; ROW_LIMIT],
+    known: &[u8; ROW_LIMIT],
+    made: &mut [u8; ROW_LIMIT],
     h: Heard,
 ) -> u8
     requires { ⌜ SoundMarks (now file) (now known) (now made) ⌝ }
@@ -93,10 +101,10 @@ fn lowest_said(
 
 pub fn lowest_rule(
     file: &[u8],
-    boxes: &[u16; 5248],
-    used: &[u8; 1024],
-    known: &[u8; 1024],
-    made: &mut [u8; 1024],
+    boxes: &[u16; BOX_ROOM],
+    used: &[u8; ROW_LIMIT],
+    known: &[u8; ROW_LIMIT],
+    made: &mut [u8; ROW_LIMIT],
     e: u16,
     h: Heard,
 ) -> u8

@@ -1,19 +1,22 @@
 // The walk over the events: the lowest rule that fits each, else rule 6 on two, else the end.
 mod fit;
 
+use closure::KEYS;
+use earlier::boxes::BOX_ROOM;
 use fit::lowest_rule;
 use trace::EventNo;
+use trace::limits::EVENTS;
+use trace::limits::ROW_LIMIT;
 ghost use mathlib.Core.Path.{_≡_};
 ghost use Prim.Native.Nat.{suc, _+_, _<_, _≤_};
 ghost use lib.ListN.{set};
+ghost use Rattle.trace.specs.File.{eventLimit};
 ghost use Rattle.rules.specs.Making.{SoundMarks, Kept};
 ghost use Rattle.walk.specs.Lowest.{ruleOf, exchangeOf};
 ghost use Rattle.walk.specs.Pace.{pace, paced, Before};
 ghost use Rattle.walk.specs.Walk.{cleared, walkable, walkFile};
 
 const SIX: u8 = 6;
-
-const EVENTS: u16 = 512;
 
 // A place past the end changes nothing.
 fn put(rules: &mut [u8], at: usize, rule: u8)
@@ -38,14 +41,14 @@ pub fn clear(rules: &mut [u8], n: u16)
 // An event is added: the rows of its message are used, the spy sees it, and it lies in its box.
 fn take_event(
     file: &[u8],
-    used: &mut [u8; 1024],
-    rows: &mut [u8; 1024],
-    keys: &mut [u8; 128],
-    boxes: &mut [u16; 5248],
+    used: &mut [u8; ROW_LIMIT],
+    rows: &mut [u8; ROW_LIMIT],
+    keys: &mut [u8; KEYS],
+    boxes: &mut [u16; BOX_ROOM],
     e: u16,
 )
     requires { ⌜ Before (now file) e (now used) (now rows) (now keys) (now boxes) ⌝ }
-    requires { ⌜ e < 512 ⌝ }
+    requires { ⌜ e < eventLimit ⌝ }
     ensures { λ _. ⌜ Before (now (file .entry)) (suc e) (now (used .exit)) (now (rows .exit)) (now (keys .exit)) (now (boxes .exit)) ⌝ }
     ensures { λ _. ⌜ Kept (now (rows .entry)) (now (rows .exit)) ⌝ }
 {
@@ -58,16 +61,16 @@ fn take_event(
 fn advance(
     file: &[u8],
     rules: &mut [u8],
-    used: &mut [u8; 1024],
-    rows: &mut [u8; 1024],
-    keys: &mut [u8; 128],
-    boxes: &mut [u16; 5248],
-    made: &mut [u8; 1024],
+    used: &mut [u8; ROW_LIMIT],
+    rows: &mut [u8; ROW_LIMIT],
+    keys: &mut [u8; KEYS],
+    boxes: &mut [u16; BOX_ROOM],
+    made: &mut [u8; ROW_LIMIT],
     i: u16,
     events: u16,
 ) -> u16
     requires { ⌜ i < events ⌝ }
-    requires { ⌜ events ≤ 512 ⌝ }
+    requires { ⌜ events ≤ eventLimit ⌝ }
     requires { ⌜ Before (now file) i (now used) (now rows) (now keys) (now boxes) ⌝ }
     requires { ⌜ SoundMarks (now file) (now rows) (now made) ⌝ }
     ensures { λ n. ⌜ n ≡ pace (ruleOf (now (file .entry))) (exchangeOf (now (file .entry))) events i ⌝ }
@@ -101,7 +104,7 @@ fn advance(
 
 // How many events are walked: all, unless the file is one that is refused.
 fn walkable(file: &[u8]) -> u16
-    ensures { λ n. ⌜ (n ≡ walkable (now (file .entry))) × (n ≤ 512) ⌝ }
+    ensures { λ n. ⌜ (n ≡ walkable (now (file .entry))) × (n ≤ eventLimit) ⌝ }
 {
     let events = trace::event_count(file);
     if EVENTS < events { EVENTS } else { events }
@@ -113,11 +116,11 @@ pub fn walk_events(file: &[u8], rules: &mut [u8]) -> u16
     ensures { λ _. ⌜ now (rules .exit) ≡ walkFile (now (file .entry)) (now (rules .entry)) .bytes ⌝ }
 {
     let events = walkable(file);
-    let mut used = [0u8; 1024];
-    let mut rows = [0u8; 1024];
-    let mut keys = [0u8; 128];
-    let mut boxes = [0u16; 5248];
-    let mut made = [0u8; 1024];
+    let mut used = [0u8; ROW_LIMIT];
+    let mut rows = [0u8; ROW_LIMIT];
+    let mut keys = [0u8; KEYS];
+    let mut boxes = [0u16; BOX_ROOM];
+    let mut made = [0u8; ROW_LIMIT];
     closure::start(file, &mut rows, &mut keys);
     let mut i: u16 = 0;
     while i < events {

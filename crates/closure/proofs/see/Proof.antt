@@ -5,6 +5,7 @@ use mathlib.Core.Path.{_≡_, refl, ap}
 use native.Mathlib.Omega.{arith}
 use denote.Ref.{now}
 use borrow.Author.Tests.{not-true, not-false}
+use Rattle.trace.specs.File.{rowLimit}
 use Rattle.closure.specs.Closure.{State, stateOf, settle}
 use Rattle.closure.proofs.Folds.{see-end, see-last, see-more}
 use Rattle.closure.proofs.see.Statement.{statement}
@@ -12,10 +13,10 @@ use Rattle.closure.proofs.see.Tie as tie
 
 abbrev Inv-loop : tie.InvT-loop
 Inv-loop file rows₀ keys₀ row fresh₀ passes₀ rows keys fresh passes =
-    (passes ≤ 1024) × (settle file (1024 - passes) (stateOf rows keys fresh) ≡ settle file 1024 (stateOf rows₀ keys₀ fresh₀))
+    (passes ≤ rowLimit) × (settle file (rowLimit - passes) (stateOf rows keys fresh) ≡ settle file rowLimit (stateOf rows₀ keys₀ fresh₀))
 
 abbrev μ-loop : tie.MeasureT-loop
-μ-loop file rows₀ keys₀ row fresh₀ passes₀ rows keys fresh passes = 1024 - passes
+μ-loop file rows₀ keys₀ row fresh₀ passes₀ rows keys fresh passes = rowLimit - passes
 
 learn-requires : tie.Need-learn-requires Inv-loop μ-loop
 learn-requires c κs = tt

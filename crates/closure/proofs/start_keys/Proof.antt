@@ -3,16 +3,17 @@
 use Prim.Native.Nat.{_≤_, _-_}
 use mathlib.Core.Path.{_≡_}
 use native.Mathlib.Omega.{arith}
+use Rattle.trace.specs.File.{agentLimit}
 use Rattle.closure.specs.Closure.{startKeys}
 use Rattle.closure.proofs.Folds.{keys-none, keys-more}
 use Rattle.closure.proofs.start_keys.Statement.{statement}
 use Rattle.closure.proofs.start_keys.Tie as tie
 
 abbrev Inv-loop : tie.InvT-loop
-Inv-loop file keys₀ agent₀ keys agent = (agent ≤ 64) × (keys ≡ startKeys file agent keys₀)
+Inv-loop file keys₀ agent₀ keys agent = (agent ≤ agentLimit) × (keys ≡ startKeys file agent keys₀)
 
 abbrev μ-loop : tie.MeasureT-loop
-μ-loop file keys₀ agent₀ keys agent = 64 - agent
+μ-loop file keys₀ agent₀ keys agent = agentLimit - agent
 
 loop-holds : tie.Need-loop-holds Inv-loop μ-loop
 loop-holds c = (omega arith, keys-none _ _)
@@ -34,7 +35,7 @@ loop-again c =
 returns : tie.Need-returns Inv-loop μ-loop
 returns c =
     let l = c .before .loop in
-    let e : l .agent ≡ 64 = omega arith in
+    let e : l .agent ≡ agentLimit = omega arith in
     rw (← e) (l .inv .1)
 
 pub start-keys-spec : {M : Type 1} → statement M

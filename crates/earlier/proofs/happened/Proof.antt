@@ -2,14 +2,15 @@
 -- Assumes nothing.
 use borrow.Author.Tests.{lt-ltb, le-ltb}
 use borrow.Author.Needs.{needs}
+use Rattle.earlier.specs.Boxes.{boxCount}
 use Rattle.earlier.proofs.happened.Statement.{statement}
 use Rattle.earlier.proofs.happened.Tie as tie
 
 returns : tie.Need-returns
-returns c = rw (← c .before .before .before .box-for .ensures, lt-ltb _ 128 (c .before .before .if1 .taken)) (c .search .ensures)
+returns c = rw (← c .before .before .before .box-for .ensures, lt-ltb _ boxCount (c .before .before .if1 .taken)) (c .search .ensures)
 
 returns-2 : tie.Need-returns-2
-returns-2 c = rw (← c .before .before .box-for .ensures, le-ltb _ 128 (c .before .if1 .left)) (c .search-all .ensures)
+returns-2 c = rw (← c .before .before .box-for .ensures, le-ltb _ boxCount (c .before .if1 .left)) (c .search-all .ensures)
 
 pub happened-spec : {M : Type 1} → statement M
 happened-spec =

@@ -4,13 +4,14 @@ use mathlib.Core.Path.{refl}
 use denote.Ref.{now}
 use native.Mathlib.Omega.{arith}
 use borrow.Author.Tests.{le-ltb}
+use Rattle.trace.specs.File.{eventLimit}
 use Rattle.earlier.proofs.Shapes.{other-shape, same-shape}
 use borrow.Author.Needs.{needs}
 use Rattle.earlier.proofs.boxes.fits_card.Statement.{statement}
 use Rattle.earlier.proofs.boxes.fits_card.Tie as tie
 
 returns : tie.Need-returns
-returns c = rw (le-ltb (c .before .args .j) 512 (c .if1 .taken)) refl
+returns c = rw (le-ltb (c .before .args .j) eventLimit (c .if1 .taken)) refl
 
 returns-2 : tie.Need-returns-2
 returns-2 c = other-shape (now (c .before .before .before .before .args .boxes)) (c .before .before .before .before .args .look) (c .before .before .before .before .args .j) (omega (arith, c .before .before .before .if1 .left)) (c .if2 .taken)

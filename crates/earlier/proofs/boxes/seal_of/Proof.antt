@@ -3,18 +3,19 @@
 use mathlib.Core.Path.{refl, sym, _∙_}
 use borrow.Author.Tests.{lt-ltb, le-ltb}
 use borrow.Author.Needs.{needs}
+use Rattle.trace.specs.File.{rowLimit}
 use Rattle.forms.proofs.Keyed.{unsealed}
 use Rattle.earlier.proofs.boxes.seal_of.Statement.{statement}
 use Rattle.earlier.proofs.boxes.seal_of.Tie as tie
 
 returns : tie.Need-returns
 returns c =
-    rw (← c .before .before .before .before .before .before .finished .ensures, ← c .before .before .before .before .before .on-side .ensures, c .before .before .before .if2 .taken, lt-ltb _ 1024 (c .before .if3 .taken))
+    rw (← c .before .before .before .before .before .before .finished .ensures, ← c .before .before .before .before .before .on-side .ensures, c .before .before .before .if2 .taken, lt-ltb _ rowLimit (c .before .if3 .taken))
     refl
 
 returns-2 : tie.Need-returns-2
 returns-2 c =
-    rw (← c .before .before .before .before .before .finished .ensures, ← c .before .before .before .before .on-side .ensures, c .before .before .if2 .taken, le-ltb _ 1024 (c .if3 .left))
+    rw (← c .before .before .before .before .before .finished .ensures, ← c .before .before .before .before .on-side .ensures, c .before .before .if2 .taken, le-ltb _ rowLimit (c .if3 .left))
     refl
 
 returns-3 : tie.Need-returns-3

@@ -7,6 +7,7 @@ use native.Mathlib.Omega.{arith}
 use denote.Ref.{now}
 use lib.ListN.{getD}
 use borrow.Author.Count.{below-none, below-more}
+use Rattle.trace.specs.File.{agentLimit}
 use Rattle.trace.proofs.First.{any-some, any-none}
 use Rattle.earlier.specs.Boxes.{chainFrom, some, fitsAt}
 use borrow.Author.Needs.{needs}
@@ -15,10 +16,10 @@ use Rattle.earlier.proofs.boxes.search_all.Tie as tie
 
 abbrev Inv-loop : tie.InvT-loop
 Inv-loop file boxes wanted look b₀ b =
-    (b ≤ 64) × ((k : ℕ) → k < b → some (fitsAt file boxes wanted) (chainFrom boxes (getD boxes k 0)) ≡ false)
+    (b ≤ agentLimit) × ((k : ℕ) → k < b → some (fitsAt file boxes wanted) (chainFrom boxes (getD boxes k 0)) ≡ false)
 
 abbrev μ-loop : tie.MeasureT-loop
-μ-loop file boxes wanted look b₀ b = 64 - b
+μ-loop file boxes wanted look b₀ b = agentLimit - b
 
 returns : tie.Need-returns Inv-loop μ-loop
 returns c =
@@ -26,7 +27,7 @@ returns c =
     let l = c .before .before .before .before .loop in
     sym
     (any-some (λ (k : ℕ). some (fitsAt (now (a .file)) (now (a .boxes)) (a .wanted)) (chainFrom (now (a .boxes)) (getD (now (a .boxes)) k 0)))
-    64 (l .b) (c .before .before .before .loop-test .taken) (sym (c .before .search .ensures) ∙ c .if1 .taken))
+    agentLimit (l .b) (c .before .before .before .loop-test .taken) (sym (c .before .search .ensures) ∙ c .if1 .taken))
 
 loop-again : tie.Need-loop-again Inv-loop μ-loop
 loop-again c =
@@ -37,10 +38,10 @@ returns-2 : tie.Need-returns-2 Inv-loop μ-loop
 returns-2 c =
     let a = c .before .before .before .args in
     let l = c .before .loop in
-    let q : l .b ≡ 64 = omega (arith, l .inv .0, c .loop-test .left) in
+    let q : l .b ≡ agentLimit = omega (arith, l .inv .0, c .loop-test .left) in
     sym
     (any-none (λ (k : ℕ). some (fitsAt (now (a .file)) (now (a .boxes)) (a .wanted)) (chainFrom (now (a .boxes)) (getD (now (a .boxes)) k 0)))
-    64 (rw q at (l .inv .1)))
+    agentLimit (rw q at (l .inv .1)))
 
 pub search-all-spec : {M : Type 1} → statement M
 search-all-spec =
