@@ -4,9 +4,10 @@ use Prim.Native.Nat.{ℕ, _<_, _≤_}
 use mathlib.Core.List.{List}
 use native.Mathlib.Omega.{arith}
 use lib.ListN.{length}
-use Rattle.trace.specs.File.{headerOf, eventsOf}
-use Rattle.trace.specs.Refusal as table
+use Rattle.trace.specs.File.{eventsOf}
 use Rattle.trace.specs.Refusal.{placeOf, Told}
+use Rattle.trace.specs.Tests.{headerOf}
+use Rattle.trace.specs.Refusal as table
 use Rattle.trace.specs.declared.Span.{Span}
 use Rattle.trace.specs.declared.Cause.{Cause}
 use Rattle.trace.specs.declared.Cause.the-variants.{WrongContents}

@@ -11,9 +11,8 @@ use lib.ListN.{length}
 use Rattle.trace.specs.File.{rowLimit, rowsOf}
 use Rattle.trace.specs.Rows.{choose, kindAt, rowAt}
 use Rattle.trace.specs.Promises.{Promised}
-use Rattle.trace.proofs.Both.{refuted}
+use Rattle.trace.proofs.Both.{refuted, or-false, or-false-right}
 use Rattle.trace.proofs.First.{bool-cases, lt-suc}
-use Rattle.trace.proofs.Refusal.{or-false, or-false-right}
 use Rattle.closure.specs.Closure.{keyRoom, State, stateOf, rowMarked, bothSides, learnRow, reopens, reopenRow, upRows, downRows, passRows, settle, seeRow}
 use Rattle.closure.proofs.Marks.{Marked, Known}
 use Rattle.closure.proofs.Grew.{Held, Grew, grew-still, grew-then, sides-at, Closed, closed-same, learns, both-grew}

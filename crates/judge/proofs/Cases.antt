@@ -4,13 +4,15 @@ use Prim.Native.Nat.{ℕ}
 use mathlib.Core.List.{List}
 use mathlib.Core.Path.{_≡_, refl}
 use Rattle.trace.specs.File.{word, rowsOf, eventsOf}
+use Rattle.trace.specs.Sample.{over}
+use Rattle.trace.specs.Rows.{rowOf}
+use Rattle.trace.specs.Tests.{lineOf}
+use Rattle.trace.specs.Reading.{reading, readItems}
 use Rattle.trace.specs.First.{first, any}
-use Rattle.trace.specs.Rows.{lineOf, rowOf}
-use Rattle.trace.specs.Refusal.{reading, readItems}
 use Rattle.trace.specs.declared.Reading.the-variants.{Readable}
 use Rattle.closure.specs.Closure.{learnRow, upRows, downRows, passRows, settle, startKeys, startRows, knownAfter}
 use Rattle.spy.specs.Made.{writeMarks}
-use Rattle.spy.specs.Knowledge.{answerReadable, bytesReadable}
+use Rattle.spy.specs.Reply.{answerReadable, bytesReadable}
 use Rattle.spy.specs.declared.Answer.the-variants.{Written}
 use Rattle.spy.proofs.Knows.{knows-readable}
 use Rattle.used.specs.Marking.{useRow, usedAfter}
@@ -24,7 +26,7 @@ use Rattle.walk.specs.Walk.{walk, cleared}
 use Rattle.walk.specs.Lowest.{lowestNoted, lowestCrypt, lowestPlain, lowestSaid, lowestRule}
 use Rattle.judge.specs.declared.reply.Verdict.{Verdict}
 use Rattle.judge.specs.Reply.{verdictReadable, rulesReadable}
-use Rattle.judge.specs.Cases.{over, Case, verdict, knowledge, fileOf, buffer, Holds, P1, P2, P3, P4, P5, P6, P7, P7-set-9, P8, P9, P10, markedCases, All, none, also, MarkedCases}
+use Rattle.judge.specs.Cases.{Case, verdict, knowledge, fileOf, buffer, Holds, P1, P2, P3, P4, P5, P6, P7, P7-set-9, P8, P9, P10, markedCases, All, none, also, MarkedCases}
 use Rattle.judge.proofs.Judges.{judged-readable}
 
 -- what is computed for a case

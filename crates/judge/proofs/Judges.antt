@@ -10,12 +10,13 @@ use lib.ListN.{length, getD, set}
 use lib.Seq.{getD-set-same, getD-set-other}
 use borrow.Author.Tests.{lt-ltb, le-ltb}
 use Rattle.trace.specs.File.{eventsOf}
-use Rattle.trace.specs.Refusal.{reading, Told}
+use Rattle.trace.specs.Refusal.{Told}
+use Rattle.trace.specs.Reading.{reading}
 use Rattle.trace.specs.declared.Cause.{Cause}
 use Rattle.trace.specs.declared.Reading as declared
 use Rattle.trace.proofs.First.{lt-suc}
-use Rattle.trace.proofs.Told.{refusals}
-use Rattle.trace.proofs.Promised.{promises}
+use Rattle.trace.proofs.Told.{told-read}
+use Rattle.trace.proofs.Promised.{promises-read}
 use Rattle.walk.specs.Walk.{Walked, cleared, walkFile}
 use Rattle.walk.specs.Lowest.{ruleOf, exchangeOf}
 use Rattle.walk.proofs.Paces.{cleared-length}
@@ -44,7 +45,7 @@ cleared-rest (suc n) bytes i l = getD-set-other (cleared n bytes) n i 0 0 (omega
 pub walk-ended : (file : List ℕ) → reading file ≡ declared.the-variants.Readable → (bytes : List ℕ) → eventsOf file ≤ length bytes →
     Ended file 0 bytes (walkFile file bytes)
 walk-ended file r bytes room =
-    let few : eventsOf file ≤ 512 = promises file r .few-events in
+    let few : eventsOf file ≤ 512 = promises-read file r .few-events in
     rw (le-ltb 512 (eventsOf file) few)
     (walked file (ruleOf file) (exchangeOf file)
     (λ i l p. let f = rule-least file r i l in (f .fits p, f .least))
@@ -54,7 +55,7 @@ walk-ended file r bytes room =
     bytes room)
 
 pub judged-refused : (file before : List ℕ) {c : Cause} → reading file ≡ declared.the-variants.Refused c → Judged file before (Refused c) before
-judged-refused file before e = refused (rw e at (refusals .told file))
+judged-refused file before e = refused (told-read file e)
 
 -- a readable file
 module _ (file before : List ℕ) (r : reading file ≡ declared.the-variants.Readable) where
@@ -62,7 +63,7 @@ module _ (file before : List ℕ) (r : reading file ≡ declared.the-variants.Re
   N = eventsOf file
 
   told : Told file declared.the-variants.Readable
-  told = rw r at (refusals .told file)
+  told = told-read file r
 
   -- enough bytes are lent
   module _ (room : N ≤ length before) where

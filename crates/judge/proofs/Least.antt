@@ -13,14 +13,14 @@ use Rattle.paper.specs.Event.{event, trace}
 use Rattle.paper.specs.Rules.{Step, Fake, SpyKeys, ClientHello, ServerHello, Certificate, CertVerify, ClientFinished, ServerFinished, ClientAccepts, ServerAccepts, ClientResume, ServerResume, Oops}
 use Rattle.trace.specs.File.{eventsOf}
 use Rattle.trace.specs.Rows.{choose, rowAt}
-use Rattle.trace.specs.Refusal.{reading}
+use Rattle.trace.specs.Reading.{reading}
 use Rattle.trace.specs.Promises.{Promised}
 use Rattle.trace.specs.declared.Row.{Row}
 use Rattle.trace.specs.declared.Row.the-variants.{Agent, Number, Nonce, Prf, PublicKey, PrivateKey, SessionKey, Hash, Crypt, Pair}
 use Rattle.trace.specs.declared.Reading.the-variants.{Readable}
 use Rattle.trace.proofs.First.{bool-cases}
 use Rattle.trace.proofs.Both.{both4, refuted}
-use Rattle.trace.proofs.Promised.{promises}
+use Rattle.trace.proofs.Promised.{promises-read}
 use Rattle.closure.specs.Closure.{knownAfter}
 use Rattle.used.specs.Marking.{usedAfter}
 use Rattle.forms.specs.Kinds.{cryptIn, pairIn, sessionIn, cryptOf, pairOf, sessionOf}
@@ -154,7 +154,7 @@ module _ (file used known : List ℕ) (find : Wanted → Bool) (both : Bool → 
 
 module _ (file : List ℕ) (r : reading file ≡ Readable) (i : ℕ) (l : i < eventsOf file) where
   abbrev P : Promised file
-  P = promises file r
+  P = promises-read file r
 
   abbrev U : List ℕ
   U = usedAfter file i
@@ -206,9 +206,9 @@ module _ (file : List ℕ) (r : reading file ≡ Readable) (i : ℕ) (l : suc i 
 
   pub exchange-sound : exchangeOf file i ≡ true → Exchanged file i
   exchange-sound t =
-      key-exchange-sound file (promises file r) i first l (usedAfter file i) (knownAfter file i .rows) (rights file r i (omega arith)) t
+      key-exchange-sound file (promises-read file r) i first l (usedAfter file i) (knownAfter file i .rows) (rights file r i (omega arith)) t
 
   pub exchange-complete : exchangeOf file i ≡ false → ¬ Exchanged file i
   exchange-complete f x =
       true≢false
-      (sym (key-exchange-complete file (promises file r) i first l (usedAfter file i) (knownAfter file i .rows) (rights file r i (omega arith)) x) ∙ f)
+      (sym (key-exchange-complete file (promises-read file r) i first l (usedAfter file i) (knownAfter file i .rows) (rights file r i (omega arith)) x) ∙ f)

@@ -1,4 +1,6 @@
 pub mod One
+pub mod Views
+pub mod Refuses
 pub mod Secrets
 pub mod Walk
 pub mod Right

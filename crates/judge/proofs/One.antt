@@ -12,12 +12,7 @@ use Rattle.paper.specs.Message.{agent}
 use Rattle.paper.specs.Rules.{Step, Exchange, ClientKeyExch}
 use Rattle.paper.proofs.Steps.{no-step}
 use Rattle.trace.specs.File.{eventsOf}
-use Rattle.trace.specs.Refusal as table
-use Rattle.trace.specs.Refusal.{Told}
-use Rattle.trace.specs.declared.Cause.{Cause}
-use Rattle.trace.specs.declared.Cause.the-variants.{TooShort}
-use Rattle.trace.specs.declared.Reading as declared
-use Rattle.trace.proofs.Told.{refusals}
+use Rattle.trace.proofs.Told.{told-readable, same-cause}
 use Rattle.judge.specs.Judged.{RuleAt, lowest, note, message, RuleBytes, Longest, refused, short, illegal, accepted}
 use Rattle.judge.specs.Promises.{OneVerdict}
 use Rattle.judge.specs.declared.reply.Verdict.the-variants.{Refused, Illegal, Accepted}
@@ -27,7 +22,7 @@ pub not-both : {bad : agent → Type 0} {evs : trace} {d e : event} {k : ℕ} �
 not-both (ClientKeyExch fresh i) s = no-step s
 
 module _ (file : List ℕ) where
-  rule-one : {i j k m : ℕ} → i ≡ j → RuleAt file i k → RuleAt file j m → k ≡ m
+  pub rule-one : {i j k m : ℕ} → i ≡ j → RuleAt file i k → RuleAt file j m → k ≡ m
   rule-one e (lowest {k = k} f l n) (lowest {k = m} g h o) =
       let a : k ≤ m = l m (rw e g) in
       let b : m ≤ k = h k (rw e at f) in
@@ -50,39 +45,29 @@ module _ (file : List ℕ) where
       go i (no l) (yes m) = a .zeros i (omega arith) m ∙ sym (b .zeros i (omega arith) m)
       go i (no l) (no m) = a .rest i (omega arith) ∙ sym (b .rest i (omega arith))
 
-  longest-one : (n m : ℕ) → n ≤ eventsOf file → m ≤ eventsOf file → Longest file n → Longest file m → n ≡ m
+  pub longest-one : (n m : ℕ) → n ≤ eventsOf file → m ≤ eventsOf file → Longest file n → Longest file m → n ≡ m
   longest-one n m ln lm a b =
       let p : ¬ (n < m) = λ l. a .longest m l lm (b .accepted) in
       let q : ¬ (m < n) = λ l. b .longest n l ln (a .accepted) in
       omega arith
 
-  not-refused : {c : Cause} → Told file (declared.the-variants.Refused c) → ¬ Told file declared.the-variants.Readable
-  not-refused (table.refused w n) (table.readable m) = m _ w
-
-  abbrev cause-of : declared.Reading → Cause
-  cause-of (declared.the-variants.Refused c) = c
-  cause-of declared.the-variants.Readable = TooShort
-
-  same-cause : {c d : Cause} → Told file (declared.the-variants.Refused c) → Told file (declared.the-variants.Refused d) → c ≡ d
-  same-cause t u = ap cause-of (refusals .one file _ _ t u)
-
 pub one-verdict : OneVerdict
 one-verdict file before v w after after′ (refused t) (refused u) = (ap Refused (same-cause file t u), refl)
-one-verdict file before v w after after′ (refused t) (short u s) = absurd (not-refused file t u)
-one-verdict file before v w after after′ (refused t) (illegal u r l k b) = absurd (not-refused file t u)
-one-verdict file before v w after after′ (refused t) (accepted u r g e b) = absurd (not-refused file t u)
-one-verdict file before v w after after′ (short t s) (refused u) = absurd (not-refused file u t)
+one-verdict file before v w after after′ (refused t) (short u s) = absurd (told-readable file t u)
+one-verdict file before v w after after′ (refused t) (illegal u r l k b) = absurd (told-readable file t u)
+one-verdict file before v w after after′ (refused t) (accepted u r g e b) = absurd (told-readable file t u)
+one-verdict file before v w after after′ (short t s) (refused u) = absurd (told-readable file u t)
 one-verdict file before v w after after′ (short t s) (short u r) = (refl, refl)
 one-verdict file before v w after after′ (short t s) (illegal u r l k b) = absurd (omega arith)
 one-verdict file before v w after after′ (short t s) (accepted u r g e b) = absurd (omega arith)
-one-verdict file before v w after after′ (illegal t r l k b) (refused u) = absurd (not-refused file u t)
+one-verdict file before v w after after′ (illegal t r l k b) (refused u) = absurd (told-readable file u t)
 one-verdict file before v w after after′ (illegal t r l k b) (short u s) = absurd (omega arith)
 one-verdict file before v w after after′ (illegal {n = n} t r l k b) (illegal {n = m} u s j i c) =
     let e = longest-one file n m (omega arith) (omega arith) l j in
     (ap Illegal e, bytes-one file m before after after′ (rw e at b) c)
 one-verdict file before v w after after′ (illegal {n = n} t r l k b) (accepted {n = m} u s g e c) =
     absurd (l .longest m (omega arith) (omega arith) g)
-one-verdict file before v w after after′ (accepted t r g e b) (refused u) = absurd (not-refused file u t)
+one-verdict file before v w after after′ (accepted t r g e b) (refused u) = absurd (told-readable file u t)
 one-verdict file before v w after after′ (accepted t r g e b) (short u s) = absurd (omega arith)
 one-verdict file before v w after after′ (accepted {n = n} t r g e b) (illegal {n = m} u s l k c) =
     absurd (l .longest n (omega arith) (omega arith) g)

@@ -10,10 +10,10 @@ use lib.ListN.{length, length-replicate}
 use Rattle.paper.specs.Message.{msg}
 use Rattle.paper.specs.Spy.{Analz, Synth, known}
 use Rattle.trace.specs.File.{eventsOf}
-use Rattle.trace.specs.Refusal.{reading}
+use Rattle.trace.specs.Reading.{reading}
 use Rattle.trace.specs.Meaning.{beginning}
 use Rattle.trace.specs.declared.Reading.the-variants.{Readable}
-use Rattle.trace.proofs.Promised.{promises}
+use Rattle.trace.proofs.Promised.{promises-read}
 use Rattle.closure.specs.Closure.{zeros, knownAfter}
 use Rattle.spy.specs.Knowledge as question
 use Rattle.spy.specs.Knowledge.{Mark, analysed, neither, seenIn}
@@ -37,7 +37,7 @@ zeros-room = length-replicate {A = ℕ} 1024 0
 pub rights : (file : List ℕ) → reading file ≡ Readable → (e : ℕ) → e ≤ eventsOf file →
     Rights file (usedAfter file e) (knownAfter file e .rows) e
 rights file r e l =
-    let P = promises file r in
+    let P = promises-read file r in
     let s = knownAfter file e in
     let g = good-after file P e l in
     let analysed = marks-analysed file P (beginning file e) (s .rows) (s .keys) g in

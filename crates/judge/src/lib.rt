@@ -7,7 +7,7 @@ use trace::EventNo;
 use trace::Reading;
 use trace::Span;
 ghost use mathlib.Core.Path.{_≡_};
-ghost use Rattle.trace.specs.Refusal.{reading};
+ghost use Rattle.trace.specs.Reading.{reading};
 ghost use Rattle.trace.specs.declared.Reading.the-variants.{Readable};
 ghost use Rattle.judge.specs.Reply.{verdictReadable, rulesReadable};
 ghost use Rattle.judge.specs.Judged.{Judged};

@@ -11,9 +11,9 @@ use borrow.Author.Tests.{ltb-true, ltb-false}
 use Rattle.paper.specs.Event.{event, trace}
 use Rattle.paper.specs.Message.{agent}
 use Rattle.paper.specs.Rules.{Step, Fake, SpyKeys, ClientHello, ServerHello, Certificate, CertVerify, ClientFinished, ServerFinished, ClientAccepts, ServerAccepts, ClientResume, ServerResume, Oops}
-use Rattle.trace.specs.File.{headerOf, wrongContents}
-use Rattle.trace.specs.Refusal as table
 use Rattle.trace.specs.Refusal.{Told, Wrong, numberOf, placeOf}
+use Rattle.trace.specs.Tests.{headerOf, wrongContents}
+use Rattle.trace.specs.Refusal as table
 use Rattle.trace.specs.declared.Cause.{Cause}
 use Rattle.trace.specs.declared.Cause.the-variants.{WrongContents, ShortBuffer}
 use Rattle.trace.specs.declared.Reading as reading

@@ -11,18 +11,20 @@ use borrow.Author.Tests.{lt-ltb, le-ltb}
 use Rattle.paper.specs.Message.{msg}
 use Rattle.paper.specs.Spy.{known}
 use Rattle.trace.specs.File.{rowsOf, eventsOf}
-use Rattle.trace.specs.Refusal as table
-use Rattle.trace.specs.Refusal.{reading, Told}
+use Rattle.trace.specs.Refusal.{numberOf, placeOf, Told}
+use Rattle.trace.specs.Reading.{reading}
 use Rattle.trace.specs.Meaning.{beginning}
 use Rattle.trace.specs.Promises.{Promised}
 use Rattle.trace.specs.declared.Cause.{Cause}
-use Rattle.trace.specs.declared.Cause.the-variants.{TooShort}
+use Rattle.trace.specs.declared.Cause.the-variants.{ShortBuffer, TooManyEvents}
 use Rattle.trace.specs.declared.Reading as declared
-use Rattle.trace.proofs.Told.{refusals, number-below}
+use Rattle.trace.proofs.Told.{told-read, same-cause, told-readable}
 use Rattle.trace.proofs.Promised.{promises}
 use Rattle.closure.specs.Closure.{knownAfter}
-use Rattle.spy.specs.Knowledge.{Mark, analysed, made, neither, Marks, Knows, refused, short, many, written, seenIn, marksAfter, answerReadable, bytesReadable}
-use Rattle.spy.specs.Promises.{OneAnswer, Refuses}
+use Rattle.spy.specs.Knowledge.{Mark, analysed, made, neither, Marks, Knows, refused, short, many, written, seenIn, answerNumber, answerPlace}
+use Rattle.spy.specs.Reply.{marksAfter, answerReadable, bytesReadable}
+use Rattle.spy.specs.Promises.{OneAnswer, Line, told, eight, nine, Refuses}
+use Rattle.spy.specs.declared.Answer.{Answer}
 use Rattle.spy.specs.declared.Answer.the-variants.{Refused}
 use Rattle.spy.proofs.Sweep.{marks-length}
 use Rattle.closure.proofs.Exact.{marks-analysed}
@@ -44,24 +46,24 @@ marks-after file P n l before room =
 
 pub knows-refused : (file : List ℕ) (n : ℕ) (before : List ℕ) {c : Cause} → reading file ≡ declared.the-variants.Refused c →
     Knows file n before (Refused c) before
-knows-refused file n before e = refused (rw e at (refusals .told file))
+knows-refused file n before e = refused (told-read file e)
 
 pub knows-readable : (file : List ℕ) (n : ℕ) (before : List ℕ) → reading file ≡ declared.the-variants.Readable →
     Knows file n before (answerReadable file n before) (bytesReadable file n before)
 knows-readable file n before e = go (decLt (length before) (rowsOf file)) (decLt (eventsOf file) n)
   where
-    told : Told file declared.the-variants.Readable
-    told = rw e at (refusals .told file)
+    clean : Told file declared.the-variants.Readable
+    clean = told-read file e
 
     go : Dec (length before < rowsOf file) → Dec (eventsOf file < n) → Knows file n before (answerReadable file n before) (bytesReadable file n before)
-    go (yes s) m = rw (lt-ltb _ _ s, bytesReadable) (short told s)
+    go (yes s) m = rw (lt-ltb _ _ s, bytesReadable) (short clean s)
     go (no s) (yes m) =
         let room : rowsOf file ≤ length before = omega arith in
-        rw (le-ltb _ _ room, lt-ltb _ _ m, bytesReadable) (many told room m)
+        rw (le-ltb _ _ room, lt-ltb _ _ m, bytesReadable) (many clean room m)
     go (no s) (no m) =
         let room : rowsOf file ≤ length before = omega arith in
         let few : n ≤ eventsOf file = omega arith in
-        rw (le-ltb _ _ room, le-ltb _ _ few, bytesReadable) (written told room few (marks-after file (promises file e) n few before room))
+        rw (le-ltb _ _ room, le-ltb _ _ few, bytesReadable) (written clean room few (marks-after file (promises file clean) n few before room))
 
 -- one answer only
 mark-one : {H : msg → Type 0} {X : msg} {m k : ℕ} → Mark H X m → Mark H X k → m ≡ k
@@ -83,44 +85,53 @@ marks-one file n before after after′ m k =
     go i (yes l) = mark-one (m .rows i l) (k .rows i l)
     go i (no l) = m .rest i (omega arith) ∙ sym (k .rest i (omega arith))
 
-module _ (file : List ℕ) where
-  not-both : {c : Cause} → Told file (declared.the-variants.Refused c) → ¬ Told file declared.the-variants.Readable
-  not-both (table.refused w n) (table.readable m) = m _ w
-
-  abbrev cause-of : declared.Reading → Cause
-  cause-of (declared.the-variants.Refused c) = c
-  cause-of declared.the-variants.Readable = TooShort
-
-  same-cause : {c d : Cause} → Told file (declared.the-variants.Refused c) → Told file (declared.the-variants.Refused d) → c ≡ d
-  same-cause t u = ap cause-of (refusals .one file _ _ t u)
-
--- causes 1 to 7 have numbers below 8
-told-number : (file : List ℕ) {c : Cause} → Told file (declared.the-variants.Refused c) → table.numberOf c < 8
-told-number file (table.refused w n) = number-below file w
-
-pub refuses : Refuses
-refuses file n before a after (refused t) =
-    let l = told-number file t in
-    record { unwritten = λ _. refl; eight = λ e. absurd (omega arith); nine = λ e. absurd (omega arith) }
-refuses file n before a after (short t s) = record { unwritten = λ _. refl; eight = λ _. (s, refl); nine = λ e. absurd (omega arith) }
-refuses file n before a after (many t r m) = record { unwritten = λ _. refl; eight = λ e. absurd (omega arith); nine = λ _. (r, m, refl) }
-refuses file n before a after (written t r l k) =
-    record { unwritten = λ e. absurd (omega arith); eight = λ e. absurd (omega arith); nine = λ e. absurd (omega arith) }
-
 pub one-answer : OneAnswer
 one-answer file n before a b after after′ (refused t) (refused u) = (ap Refused (same-cause file t u), refl)
-one-answer file n before a b after after′ (refused t) (short u s) = absurd (not-both file t u)
-one-answer file n before a b after after′ (refused t) (many u r m) = absurd (not-both file t u)
-one-answer file n before a b after after′ (refused t) (written u r l k) = absurd (not-both file t u)
-one-answer file n before a b after after′ (short t s) (refused u) = absurd (not-both file u t)
+one-answer file n before a b after after′ (refused t) (short u s) = absurd (told-readable file t u)
+one-answer file n before a b after after′ (refused t) (many u r m) = absurd (told-readable file t u)
+one-answer file n before a b after after′ (refused t) (written u r l k) = absurd (told-readable file t u)
+one-answer file n before a b after after′ (short t s) (refused u) = absurd (told-readable file u t)
 one-answer file n before a b after after′ (short t s) (short u v) = (refl, refl)
 one-answer file n before a b after after′ (short t s) (many u r m) = absurd (omega arith)
 one-answer file n before a b after after′ (short t s) (written u r l k) = absurd (omega arith)
-one-answer file n before a b after after′ (many t s m) (refused u) = absurd (not-both file u t)
+one-answer file n before a b after after′ (many t s m) (refused u) = absurd (told-readable file u t)
 one-answer file n before a b after after′ (many t r m) (short u v) = absurd (omega arith)
 one-answer file n before a b after after′ (many t r m) (many u q l) = (refl, refl)
 one-answer file n before a b after after′ (many t r m) (written u q l k) = absurd (omega arith)
-one-answer file n before a b after after′ (written t r l k) (refused u) = absurd (not-both file u t)
+one-answer file n before a b after after′ (written t r l k) (refused u) = absurd (told-readable file u t)
 one-answer file n before a b after after′ (written t r l k) (short u v) = absurd (omega arith)
 one-answer file n before a b after after′ (written t r l k) (many u q m) = absurd (omega arith)
 one-answer file n before a b after after′ (written t r l k) (written u q m j) = (refl, marks-one file n before after after′ k j)
+
+-- a line of the table is an answer, and so the only one
+line-knows : {file : List ℕ} {n : ℕ} {before : List ℕ} {k p : ℕ} → Line file n before k p →
+    (c : Cause) × Knows file n before (Refused c) before × (numberOf c ≡ k) × (placeOf c ≡ p)
+line-knows (told {c = c} t) = (c, refused t, refl, refl)
+line-knows (eight t l) = (ShortBuffer, short t l, refl, refl)
+line-knows (nine t r l) = (TooManyEvents, many t r l, refl, refl)
+
+knows-line : {file : List ℕ} {n : ℕ} {before : List ℕ} {a : Answer} {after : List ℕ} → Knows file n before a after → 0 < answerNumber a →
+    Line file n before (answerNumber a) (answerPlace a)
+knows-line (refused t) l = told t
+knows-line (short t s) l = eight t s
+knows-line (many t r m) l = nine t r m
+knows-line (written t r m k) l = absurd (omega arith)
+
+knows-unwritten : {file : List ℕ} {n : ℕ} {before : List ℕ} {a : Answer} {after : List ℕ} → Knows file n before a after → 0 < answerNumber a →
+    after ≡ before
+knows-unwritten (refused t) l = refl
+knows-unwritten (short t s) l = refl
+knows-unwritten (many t r m) l = refl
+knows-unwritten (written t r m k) l = absurd (omega arith)
+
+pub refuses : Refuses
+refuses f n before a after knows =
+    record {
+      unwritten = knows-unwritten knows;
+      exactly = λ k p l.
+          (λ (e, q). rw (← e, ← q) (knows-line knows (omega arith)),
+          λ line.
+              let h = line-knows line in
+              let same = one-answer f n before a (Refused (h .0)) after before knows (h .1) .0 in
+              (ap answerNumber same ∙ h .2, ap answerPlace same ∙ h .3));
+    }

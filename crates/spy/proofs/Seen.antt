@@ -18,7 +18,8 @@ use Rattle.paper.proofs.Closures.{analz-mono, synth-mono}
 use Rattle.trace.specs.File.{rowsOf, eventsOf, compromisedIn}
 use Rattle.trace.specs.Rows.{choose}
 use Rattle.trace.specs.Events.{eventAt}
-use Rattle.trace.specs.Refusal.{reading, Told}
+use Rattle.trace.specs.Refusal.{Told}
+use Rattle.trace.specs.Reading.{reading}
 use Rattle.trace.specs.Meaning.{messages, message, eventMeant, beginning, bad}
 use Rattle.trace.specs.Promises.{Promised, Exists, says, notes}
 use Rattle.trace.specs.declared.AgentNo.{AgentNo}
@@ -27,7 +28,6 @@ use Rattle.trace.specs.declared.Event.{Event}
 use Rattle.trace.specs.declared.Event.the-variants.{Says, Notes}
 use Rattle.trace.specs.declared.Reading.the-variants.{Readable}
 use Rattle.trace.proofs.First.{bool-cases, lt-suc}
-use Rattle.trace.proofs.Told.{refusals}
 use Rattle.trace.proofs.Promised.{promises}
 use Rattle.spy.specs.Knowledge.{Mark, analysed, made, neither, Marks, Knows, written, seenIn}
 use Rattle.spy.specs.Promises.{OnlyGrows, struckOut, eventsLeft, SameRows, SeenDecides}
@@ -154,9 +154,6 @@ module _ (file other : List ℕ) (s : SameRows file other) where
       go (inl i) = start (starts-same i)
       go (inr i) = shown-seen other Q m (subst (Shown other X) e (shown-same i))
 
-pub promised-file : (file : List ℕ) → Told file Readable → Promised file
-promised-file file t = promises file (refusals .one file (reading file) Readable (refusals .told file) t)
-
 same-back : {file other : List ℕ} → SameRows file other → SameRows other file
 same-back s =
     record {
@@ -169,8 +166,8 @@ pub seen-decides : SeenDecides
 seen-decides file other n m before before′ after after′ s e p q r l =
     let a = told-file p in
     let b = told-file q in
-    let P = promised-file file (a .0) in
-    let Q = promised-file other (b .0) in
+    let P = promises file (a .0) in
+    let Q = promises other (b .0) in
     let x = a .2 .rows r l in
     let y : Mark (seenIn other m) (message file r) (getD after′ r 0) = rw (message-same file other s r l) (b .2 .rows r (rw (s .count) at l)) in
     let up = mark-grows (seen-within file other s n m P Q (a .1) e) x y in

@@ -1,21 +1,16 @@
 -- The knowledge question: document 01, "Questions and their replies", over the paper's closures.
 use Prim.Native.Nat.{ℕ, _<_, _≤_}
-use mathlib.Core.Bool.{true, false}
 use mathlib.Core.List.{List}
 use mathlib.Core.Path.{_≡_}
-use lib.Dec.{ltb}
 use lib.ListN.{length, getD}
 use Rattle.paper.specs.Message.{msg}
 use Rattle.paper.specs.Spy.{Spies, Analz, Synth}
 use Rattle.trace.specs.File.{rowsOf, eventsOf}
-use Rattle.trace.specs.Rows.{choose}
 use Rattle.trace.specs.Refusal.{numberOf, placeOf, Told}
 use Rattle.trace.specs.Meaning.{message, beginning, bad}
 use Rattle.trace.specs.declared.Cause.{Cause}
 use Rattle.trace.specs.declared.Cause.the-variants.{ShortBuffer, TooManyEvents}
 use Rattle.trace.specs.declared.Reading as reading
-use Rattle.closure.specs.Closure.{knownAfter}
-use Rattle.spy.specs.Made.{writeMarks}
 use Rattle.spy.specs.declared.Answer.{Answer}
 use Rattle.spy.specs.declared.Answer.the-variants.{Refused, Written}
 
@@ -52,20 +47,3 @@ answerNumber Written = 0
 abbrev pub answerPlace : Answer → ℕ
 answerPlace (Refused c) = placeOf c
 answerPlace Written = 0
-
--- a mark for each row after the first n events, at the start of the buffer, computed
-abbrev pub marksAfter : List ℕ → ℕ → List ℕ → List ℕ
-marksAfter file n buffer = writeMarks file (knownAfter file n .rows) (rowsOf file) buffer
-
-abbrev pub answerReadable : List ℕ → ℕ → List ℕ → Answer
-answerReadable file n buffer =
-    choose (ltb (length buffer) (rowsOf file)) (Refused ShortBuffer)
-    (choose (ltb (eventsOf file) n) (Refused TooManyEvents)
-    Written)
-
-abbrev pub bytesReadable : List ℕ → ℕ → List ℕ → List ℕ
-bytesReadable file n buffer =
-    elim (ltb (length buffer) (rowsOf file)) [
-      | true ↦ buffer
-      | false ↦ elim (ltb (eventsOf file) n) [ true ↦ buffer | false ↦ marksAfter file n buffer ]
-    ]

@@ -1,3 +1,4 @@
-pub mod Made
 pub mod Knowledge
 pub mod Promises
+pub mod Made
+pub mod Reply

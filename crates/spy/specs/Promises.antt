@@ -2,11 +2,15 @@
 use Prim.Native.Nat.{ℕ, zero, suc, _<_, _≤_}
 use mathlib.Core.Bool.{Bool, false, not}
 use mathlib.Core.List.{List, [], _∷_}
+use mathlib.Core.Logic.{_↔_}
 use mathlib.Core.Path.{_≡_}
 use lib.ListN.{length, getD}
 use Rattle.trace.specs.File.{rowsOf, eventsOf, compromisedIn}
 use Rattle.trace.specs.Rows.{choose, rowAt}
 use Rattle.trace.specs.Events.{eventAt}
+use Rattle.trace.specs.Refusal.{numberOf, placeOf, Told}
+use Rattle.trace.specs.declared.Cause.{Cause}
+use Rattle.trace.specs.declared.Reading.the-variants.{Refused, Readable}
 use Rattle.trace.specs.declared.Event.{Event}
 use Rattle.trace.specs.declared.Event.the-variants.{Says, Notes}
 use Rattle.spy.specs.Knowledge.{Knows, answerNumber, answerPlace}
@@ -19,11 +23,16 @@ OneAnswer =
     (file : List ℕ) (n : ℕ) (before : List ℕ) (a b : Answer) (after after′ : List ℕ) →
     Knows file n before a after → Knows file n before b after′ → (a ≡ b) × (after ≡ after′)
 
--- a refused call changes no lent byte, and the number is 8 or 9 exactly when the table says so
+-- the lines of the table for this question, by number and place: refusals 1 to 7 of the file, then 8, then 9
+pub data Line (file : List ℕ) (n : ℕ) (before : List ℕ) : (number place : ℕ) → Type 0 where
+  told : {c : Cause} → Told file (Refused c) → Line file n before (numberOf c) (placeOf c)
+  eight : Told file Readable → length before < rowsOf file → Line file n before 8 0
+  nine : Told file Readable → rowsOf file ≤ length before → eventsOf file < n → Line file n before 9 0
+
+-- a refused call changes no lent byte, and a number is given, with its place, exactly when its line says so
 pub record Refusing (file : List ℕ) (n : ℕ) (before : List ℕ) (a : Answer) (after : List ℕ) : Type 0 where
   pub unwritten : 0 < answerNumber a → after ≡ before
-  pub eight : answerNumber a ≡ 8 → (length before < rowsOf file) × (answerPlace a ≡ 0)
-  pub nine : answerNumber a ≡ 9 → (rowsOf file ≤ length before) × (eventsOf file < n) × (answerPlace a ≡ 0)
+  pub exactly : (k p : ℕ) → 0 < k → ((answerNumber a ≡ k) × (answerPlace a ≡ p)) ↔ Line file n before k p
 
 abbrev pub Refuses : Type 0
 Refuses =

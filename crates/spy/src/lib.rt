@@ -9,7 +9,8 @@ use trace::limits::ROW_LIMIT;
 ghost use mathlib.Core.Path.{_≡_};
 ghost use Rattle.trace.specs.File.{rowLimit};
 ghost use Rattle.closure.specs.Closure.{keyRoom, knownAfter, zeros};
-ghost use Rattle.spy.specs.Knowledge.{Knows, marksAfter, answerReadable, bytesReadable};
+ghost use Rattle.spy.specs.Knowledge.{Knows};
+ghost use Rattle.spy.specs.Reply.{marksAfter, answerReadable, bytesReadable};
 
 pub enum Answer {
     Refused(Cause),

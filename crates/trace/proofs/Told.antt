@@ -276,13 +276,13 @@ module _ (file : List ℕ) where
       go (no h) (no m) (yes n) = lowest-one _ _ p q (a .3 n) (b .3 n)
       go (no h) (no m) (no n) = let low : k < 5 = omega arith in a .0 low ∙ sym (b .0 low)
 
-  same-cause : {c d : Cause} → Wrong file c → Wrong file d → ¬ (numberOf d < numberOf c) → ¬ (numberOf c < numberOf d) → c ≡ d
-  same-cause {c} {d} v w n m =
+  wrong-one : {c d : Cause} → Wrong file c → Wrong file d → ¬ (numberOf d < numberOf c) → ¬ (numberOf c < numberOf d) → c ≡ d
+  wrong-one {c} {d} v w n m =
       let h : numberOf c ≡ numberOf d = omega arith in
       one-cause c d h (same-place (numberOf d) (placeOf c) (placeOf d) (wrong-number w) (rw h at (placed v)) (placed w))
 
   told-one : (r s : Reading) → Told file r → Told file s → r ≡ s
-  told-one r s (refused v n) (refused w m) = ap Refused (same-cause v w (λ l. n _ l w) (λ l. m _ l v))
+  told-one r s (refused v n) (refused w m) = ap Refused (wrong-one v w (λ l. n _ l w) (λ l. m _ l v))
   told-one r s (refused v n) (readable m) = absurd (m _ v)
   told-one r s (readable n) (refused w m) = absurd (n _ w)
   told-one r s (readable n) (readable m) = refl
@@ -292,6 +292,17 @@ refusals = record { told = λ file. told-short file (decLt (length file) rowsAt)
 
 pub told-read : (file : List ℕ) {r : Reading} → reading file ≡ r → Told file r
 told-read file e = rw e at (refusals .told file)
+
+-- a file is refused by one cause, or readable
+pub told-readable : (file : List ℕ) {c : Cause} → Told file (Refused c) → ¬ Told file Readable
+told-readable file (refused w n) (readable m) = m _ w
+
+abbrev causeIn : Reading → Cause
+causeIn (Refused c) = c
+causeIn Readable = TooShort
+
+pub same-cause : (file : List ℕ) {c d : Cause} → Told file (Refused c) → Told file (Refused d) → c ≡ d
+same-cause file t u = ap causeIn (refusals .one file _ _ t u)
 
 -- what a file has whose contents part is right
 module _ (file : List ℕ) (right : ¬ Wrong file WrongContents) where

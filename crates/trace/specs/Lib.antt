@@ -9,4 +9,5 @@ pub mod Tests
 pub mod Reading
 pub mod Spans
 pub mod Promises
+pub mod Sample
 pub mod Chain

@@ -18,7 +18,7 @@ use Rattle.trace.specs.Promises.{Promised, Keeps, crypt, pair, Unfolds, asAgent
 use Rattle.trace.specs.declared.Row.{Row}
 use Rattle.trace.specs.declared.Event.{Event}
 use Rattle.trace.specs.declared.Event.the-variants.{Says, Notes}
-use Rattle.trace.proofs.Promised.{promises}
+use Rattle.trace.proofs.Promised.{promises-read}
 use Rattle.closure.proofs.Marks.{Marked, none-marked}
 use Rattle.used.specs.Marking.{useRow, useEvent, usedAfter}
 use Rattle.used.specs.Promises.{UsedExactly}
@@ -176,4 +176,4 @@ module _ (file : List ℕ) (P : Promised file) where
       (g .sound x l, used-marked (beginning file n) (usedAfter file n) g x l)
 
 pub used-exactly : UsedExactly
-used-exactly file r n h x l = exactly file (promises file r) n h x l
+used-exactly file r n h x l = exactly file (promises-read file r) n h x l

@@ -5,7 +5,7 @@ use mathlib.Core.List.{List}
 use mathlib.Core.Path.{_≡_}
 use Rattle.paper.specs.Used.{Used}
 use Rattle.trace.specs.File.{rowsOf, eventsOf}
-use Rattle.trace.specs.Refusal.{reading}
+use Rattle.trace.specs.Reading.{reading}
 use Rattle.trace.specs.Meaning.{message, beginning}
 use Rattle.trace.specs.declared.Reading.the-variants.{Readable}
 use Rattle.closure.specs.Closure.{rowMarked}

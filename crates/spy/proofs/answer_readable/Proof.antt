@@ -1,7 +1,7 @@
 -- `spy::answer_readable` meets its contract: the tests that led to a return say which case holds.
 -- Assumes nothing.
 use borrow.Author.Tests.{lt-ltb, le-ltb}
-use Rattle.spy.specs.Knowledge.{bytesReadable}
+use Rattle.spy.specs.Reply.{bytesReadable}
 use borrow.Author.Needs.{needs}
 use Rattle.spy.proofs.answer_readable.Statement.{statement}
 use Rattle.spy.proofs.answer_readable.Tie as tie
