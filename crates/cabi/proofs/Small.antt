@@ -4,7 +4,7 @@ use Prim.Native.Nat.{ℕ, _<_, _≤_}
 use mathlib.Core.List.{List}
 use native.Mathlib.Omega.{arith}
 use lib.ListN.{length}
-use Rattle.trace.specs.File.{headerOf, eventsOf}
+use Rattle.trace.specs.File.{eventLimit, headerOf, eventsOf}
 use Rattle.trace.specs.Refusal as table
 use Rattle.trace.specs.Refusal.{placeOf, Told}
 use Rattle.trace.specs.declared.Span.{Span}
@@ -34,7 +34,7 @@ place-small file c (table.refused (table.repeated l) none) =
 place-small file c (table.refused (table.event l) none) =
     omega (arith, l .below, few-events (headerOf file) (length file) (refuted _ (λ e. none WrongContents (omega arith) (table.contents e))))
 
-events-few : (file : List ℕ) → Told file reading.the-variants.Readable → eventsOf file ≤ 512
+events-few : (file : List ℕ) → Told file reading.the-variants.Readable → eventsOf file ≤ eventLimit
 events-few file (table.readable none) = few-events (headerOf file) (length file) (refuted _ (λ e. none WrongContents (table.contents e)))
 
 verdict-small : (file before : List ℕ) (v : Verdict) (after : List ℕ) → judge.Judged file before v after → SmallVerdict v

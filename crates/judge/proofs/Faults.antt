@@ -7,7 +7,7 @@ use native.Mathlib.Omega.{arith}
 use lib.ListN.{length}
 use denote.Ref.{RefT, now}
 use borrow.Author.Tests.{le-leb}
-use Rattle.trace.specs.File.{rowsAt, headerOf, rowsOf, eventsOf}
+use Rattle.trace.specs.File.{eventLimit, rowsAt, headerOf, rowsOf, eventsOf}
 use Rattle.trace.specs.Events.{eventsAt}
 use Rattle.trace.specs.declared.Span.{Span}
 use Rattle.trace.specs.Fault.{nothing, eventSpan, faultOf, within, Inside, Part}
@@ -59,7 +59,7 @@ module _ (file : List ℕ) (r : reading file ≡ Readable) where
         accepted told (rw e at (ended .accepted))
 
   -- as the code has them: at most 512 events, so a buffer of 512 bytes has room for all
-  module _ (bytes : List ℕ) (room : 512 ≤ length bytes) where
+  module _ (bytes : List ℕ) (room : eventLimit ≤ length bytes) where
     enough : eventsOf file ≤ length bytes
     enough =
         let few = promises file r .few-events in

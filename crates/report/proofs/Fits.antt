@@ -11,7 +11,7 @@ use borrow.Author.Tests.{ltb-true, ltb-false}
 use Rattle.paper.specs.Event.{event, trace}
 use Rattle.paper.specs.Message.{agent}
 use Rattle.paper.specs.Rules.{Step, Fake, SpyKeys, ClientHello, ServerHello, Certificate, CertVerify, ClientFinished, ServerFinished, ClientAccepts, ServerAccepts, ClientResume, ServerResume, Oops}
-use Rattle.trace.specs.File.{headerOf, wrongContents}
+use Rattle.trace.specs.File.{eventLimit, headerOf, wrongContents}
 use Rattle.trace.specs.Refusal as table
 use Rattle.trace.specs.Refusal.{Told, Wrong, numberOf, placeOf}
 use Rattle.trace.specs.declared.Cause.{Cause}
@@ -58,7 +58,7 @@ line e rule h k =
     let b = two-digits rule k in
     simp length-append (omega arith)
 
-lines : (rules : List ℕ) (n : ℕ) → n ≤ 512 → ((i : ℕ) → i < n → getD rules i 0 < 100) → length (eventLines rules n) ≤ 7 * n
+lines : (rules : List ℕ) (n : ℕ) → n ≤ eventLimit → ((i : ℕ) → i < n → getD rules i 0 < 100) → length (eventLines rules n) ≤ 7 * n
 unfolding eventLines
 lines rules zero h f = omega arith
 lines rules (suc n) h f =
@@ -123,7 +123,7 @@ refusal rules c h k =
 told-refusal : (file rules : List ℕ) (c : Cause) → Told file (reading.the-variants.Refused c) → length (textOf (Refused c) rules) ≤ 3600
 told-refusal file rules c (table.refused w n) = refusal rules c (small-number file w) (small-place file w n)
 
-module _ (file before : List ℕ) (n : ℕ) (after : List ℕ) (b : RuleBytes file n before after) (few : n ≤ 512) where
+module _ (file before : List ℕ) (n : ℕ) (after : List ℕ) (b : RuleBytes file n before after) (few : n ≤ eventLimit) where
   all-lines : length (eventLines after n) ≤ 3584
   all-lines = let l = lines after n few (λ i h. small-rule (b .rules i h)) in omega arith
 
@@ -150,9 +150,9 @@ short-text file before v rules (accepted {n = n} t r g e b) =
     let P = promised-file file t in accepted-text file before n rules b (omega (arith, P .few-events))
 
 pub reported : (file before after : List ℕ) (n : ℕ) (v : Verdict) (rules : List ℕ) → length before ≡ 4096 →
-    Judged file (replicate 512 0) v rules → Put before 0 (textOf v rules) after n → Reported file before n after
+    Judged file (replicate eventLimit 0) v rules → Put before 0 (textOf v rules) after n → Reported file before n after
 reported file before after n v rules e j p =
-    let h : length (textOf v rules) ≤ length before = omega (arith, short-text file (replicate 512 0) v rules j) in
+    let h : length (textOf v rules) ≤ length before = omega (arith, short-text file (replicate eventLimit 0) v rules j) in
     record {
       verdict = v;
       rules = rules;
