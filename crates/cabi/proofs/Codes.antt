@@ -3,55 +3,14 @@
 use Prim.Native.Nat.{ℕ, _<_, _≤_}
 use mathlib.Core.Path.{_≡_, refl, sym, _∙_, ap}
 use native.Mathlib.Omega.{arith}
-use lib.Dec.{eqb}
-use Rattle.trace.specs.Rows.{choose}
 use Rattle.trace.specs.Refusal.{numberOf, placeOf}
 use Rattle.trace.specs.declared.Span.{Span}
 use Rattle.trace.specs.declared.Cause.{Cause}
-use Rattle.trace.specs.declared.Cause.the-variants.{TooShort, WrongVersion, WrongSet, WrongContents, BadRow, RepeatedRow, BadEvent, ShortBuffer, TooManyEvents}
+use Rattle.trace.proofs.Causes.{one-cause}
 use Rattle.spy.specs.declared.Answer as spy
 use Rattle.judge.specs.declared.reply.Verdict.{Verdict}
 use Rattle.judge.specs.declared.reply.Verdict.the-variants.{Refused, Illegal, Accepted}
 use Rattle.cabi.specs.Codes.{half, refusalCode, verdictCode, answerCode, spanCode, SmallVerdict, SmallAnswer, CodesTell}
-
-pub number-most : (c : Cause) → numberOf c ≤ 9
-number-most TooShort = omega arith
-number-most WrongVersion = omega arith
-number-most WrongSet = omega arith
-number-most WrongContents = omega arith
-number-most (BadRow r) = omega arith
-number-most (RepeatedRow r) = omega arith
-number-most (BadEvent e) = omega arith
-number-most ShortBuffer = omega arith
-number-most TooManyEvents = omega arith
-
--- the cause that a number and a place tell
-abbrev causeOf : ℕ → ℕ → Cause
-causeOf n p =
-    choose (eqb n 1) TooShort
-    (choose (eqb n 2) WrongVersion
-    (choose (eqb n 3) WrongSet
-    (choose (eqb n 4) WrongContents
-    (choose (eqb n 5) (BadRow (record { 0 = p }))
-    (choose (eqb n 6) (RepeatedRow (record { 0 = p }))
-    (choose (eqb n 7) (BadEvent (record { 0 = p }))
-    (choose (eqb n 8) ShortBuffer
-    TooManyEvents)))))))
-
-cause-told : (c : Cause) → causeOf (numberOf c) (placeOf c) ≡ c
-cause-told TooShort = refl
-cause-told WrongVersion = refl
-cause-told WrongSet = refl
-cause-told WrongContents = refl
-cause-told (BadRow r) = refl
-cause-told (RepeatedRow r) = refl
-cause-told (BadEvent e) = refl
-cause-told ShortBuffer = refl
-cause-told TooManyEvents = refl
-
-one-cause : (c d : Cause) → numberOf c ≡ numberOf d → placeOf c ≡ placeOf d → c ≡ d
-one-cause c d n p =
-    sym (cause-told c) ∙ ap (λ (k : ℕ). causeOf k (placeOf c)) n ∙ ap (λ (k : ℕ). causeOf (numberOf d) k) p ∙ cause-told d
 
 refusal-tells : (c d : Cause) → placeOf c < half → placeOf d < half → refusalCode c ≡ refusalCode d → c ≡ d
 refusal-tells c d l m e = one-cause c d (omega arith) (omega arith)

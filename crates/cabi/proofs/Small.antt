@@ -3,17 +3,13 @@
 use Prim.Native.Nat.{ℕ, _<_, _≤_}
 use mathlib.Core.List.{List}
 use native.Mathlib.Omega.{arith}
-use lib.ListN.{length}
-use Rattle.trace.specs.File.{eventsOf}
+use Rattle.trace.specs.File.{eventLimit, eventsOf}
 use Rattle.trace.specs.Refusal.{placeOf, Told}
-use Rattle.trace.specs.Tests.{headerOf}
-use Rattle.trace.specs.Refusal as table
 use Rattle.trace.specs.declared.Span.{Span}
 use Rattle.trace.specs.declared.Cause.{Cause}
-use Rattle.trace.specs.declared.Cause.the-variants.{WrongContents}
 use Rattle.trace.specs.declared.Reading as reading
-use Rattle.trace.proofs.Both.{refuted}
-use Rattle.trace.proofs.Refusal.{few-rows, few-events}
+use Rattle.trace.proofs.Told.{told-place}
+use Rattle.trace.proofs.Promised.{promises}
 use Rattle.spy.specs.declared.Answer.{Answer}
 use Rattle.spy.specs.Knowledge as spy
 use Rattle.judge.specs.declared.reply.Verdict.{Verdict}
@@ -24,19 +20,10 @@ use Rattle.cabi.specs.Codes.{half, SmallVerdict, SmallAnswer}
 use Rattle.cabi.specs.Coded.{RepliesSmall}
 
 place-small : (file : List ℕ) (c : Cause) → Told file (reading.the-variants.Refused c) → placeOf c < half
-place-small file c (table.refused (table.short l) none) = omega arith
-place-small file c (table.refused (table.version e) none) = omega arith
-place-small file c (table.refused (table.set e) none) = omega arith
-place-small file c (table.refused (table.contents e) none) = omega arith
-place-small file c (table.refused (table.row l) none) =
-    omega (arith, l .below, few-rows (headerOf file) (length file) (refuted _ (λ e. none WrongContents (omega arith) (table.contents e))))
-place-small file c (table.refused (table.repeated l) none) =
-    omega (arith, l .below, few-rows (headerOf file) (length file) (refuted _ (λ e. none WrongContents (omega arith) (table.contents e))))
-place-small file c (table.refused (table.event l) none) =
-    omega (arith, l .below, few-events (headerOf file) (length file) (refuted _ (λ e. none WrongContents (omega arith) (table.contents e))))
+place-small file c t = omega (arith, told-place file c t)
 
-events-few : (file : List ℕ) → Told file reading.the-variants.Readable → eventsOf file ≤ 512
-events-few file (table.readable none) = few-events (headerOf file) (length file) (refuted _ (λ e. none WrongContents (table.contents e)))
+events-few : (file : List ℕ) → Told file reading.the-variants.Readable → eventsOf file ≤ eventLimit
+events-few file t = promises file t .few-events
 
 verdict-small : (file before : List ℕ) (v : Verdict) (after : List ℕ) → judge.Judged file before v after → SmallVerdict v
 verdict-small file before v after (judge.refused {c = c} t) = place-small file c t

@@ -65,7 +65,7 @@ module _ (file : List ℕ) (r : reading file ≡ Readable) where
         let e : n ≡ eventsOf file = omega (arith, ended .within) in
         accepted told (rw e at (ended .accepted))
 
-  -- as the code has them: at most eventLimit events, so a buffer of eventLimit bytes has room for all
+  -- as the code has them: at most 512 events, so a buffer of 512 bytes has room for all
   module _ (bytes : List ℕ) (room : eventLimit ≤ length bytes) where
     enough : eventsOf file ≤ length bytes
     enough =

@@ -9,7 +9,7 @@ use native.Mathlib.Decide.{decLt}
 use lib.ListN.{length, getD, set}
 use lib.Seq.{getD-set-same, getD-set-other}
 use borrow.Author.Tests.{lt-ltb, le-ltb}
-use Rattle.trace.specs.File.{eventsOf}
+use Rattle.trace.specs.File.{eventLimit, eventsOf}
 use Rattle.trace.specs.Refusal.{Told}
 use Rattle.trace.specs.Reading.{reading}
 use Rattle.trace.specs.declared.Cause.{Cause}
@@ -45,8 +45,8 @@ cleared-rest (suc n) bytes i l = getD-set-other (cleared n bytes) n i 0 0 (omega
 pub walk-ended : (file : List ℕ) → reading file ≡ declared.the-variants.Readable → (bytes : List ℕ) → eventsOf file ≤ length bytes →
     Ended file 0 bytes (walkFile file bytes)
 walk-ended file r bytes room =
-    let few : eventsOf file ≤ 512 = promises-read file r .few-events in
-    rw (le-ltb 512 (eventsOf file) few)
+    let few : eventsOf file ≤ eventLimit = promises-read file r .few-events in
+    rw (le-ltb eventLimit (eventsOf file) few)
     (walked file (ruleOf file) (exchangeOf file)
     (λ i l p. let f = rule-least file r i l in (f .fits p, f .least))
     (λ i l z. rule-least file r i l .none z)

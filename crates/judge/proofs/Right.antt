@@ -9,7 +9,7 @@ use lib.Dec.{ltb}
 use lib.ListN.{length, length-replicate}
 use Rattle.paper.specs.Message.{msg}
 use Rattle.paper.specs.Spy.{Analz, Synth, known}
-use Rattle.trace.specs.File.{eventsOf}
+use Rattle.trace.specs.File.{rowLimit, eventsOf}
 use Rattle.trace.specs.Reading.{reading}
 use Rattle.trace.specs.Meaning.{beginning}
 use Rattle.trace.specs.declared.Reading.the-variants.{Readable}
@@ -31,8 +31,8 @@ mark-made (analysed a) = (λ _. known a, λ _. refl)
 mark-made (question.made n s) = (λ _. s, λ _. refl)
 mark-made (neither n) = (λ t. absurd (true≢false (sym t)), λ s. absurd (n s))
 
-zeros-room : length (zeros 1024) ≡ 1024
-zeros-room = length-replicate {A = ℕ} 1024 0
+zeros-room : length (zeros rowLimit) ≡ rowLimit
+zeros-room = length-replicate {A = ℕ} rowLimit 0
 
 pub rights : (file : List ℕ) → reading file ≡ Readable → (e : ℕ) → e ≤ eventsOf file →
     Rights file (usedAfter file e) (knownAfter file e .rows) e
@@ -46,6 +46,6 @@ rights file r e l =
       known-right = λ x h. (g .sound .rows x h, analysed x h);
       made-right = λ x h.
           mark-made
-          (marks-right file P (seenIn file e) (s .rows) (g .sound .rows) analysed (suc x) (zeros 1024) (omega arith)
+          (marks-right file P (seenIn file e) (s .rows) (g .sound .rows) analysed (suc x) (zeros rowLimit) (omega arith)
           (omega (arith, P .few-rows, zeros-room)) x (omega arith));
     }

@@ -6,6 +6,7 @@ use trace::Cause;
 use trace::EventNo;
 use trace::Reading;
 use trace::Span;
+use trace::limits::EVENT_LIMIT;
 ghost use mathlib.Core.Path.{_≡_};
 ghost use Rattle.trace.specs.Reading.{reading};
 ghost use Rattle.trace.specs.declared.Reading.the-variants.{Readable};
@@ -47,7 +48,7 @@ fn illegal_span(file: &[u8]) -> Span
     requires { ⌜ reading (now file) ≡ Readable ⌝ }
     ensures { λ span. ⌜ Faulted (now (file .entry)) span ⌝ }
 {
-    let mut rules = [0u8; 512];
+    let mut rules = [0u8; EVENT_LIMIT];
     let n = walk::walk_events(file, &mut rules);
     if n < trace::event_count(file) {
         return trace::event_span(file, EventNo(n));

@@ -11,15 +11,13 @@ use borrow.Author.Tests.{ltb-true, ltb-false}
 use Rattle.paper.specs.Event.{event, trace}
 use Rattle.paper.specs.Message.{agent}
 use Rattle.paper.specs.Rules.{Step, Fake, SpyKeys, ClientHello, ServerHello, Certificate, CertVerify, ClientFinished, ServerFinished, ClientAccepts, ServerAccepts, ClientResume, ServerResume, Oops}
-use Rattle.trace.specs.Refusal.{Told, Wrong, numberOf, placeOf}
-use Rattle.trace.specs.Tests.{headerOf, wrongContents}
-use Rattle.trace.specs.Refusal as table
+use Rattle.trace.specs.File.{eventLimit}
+use Rattle.trace.specs.Refusal.{numberOf, placeOf}
 use Rattle.trace.specs.declared.Cause.{Cause}
-use Rattle.trace.specs.declared.Cause.the-variants.{WrongContents, ShortBuffer}
-use Rattle.trace.specs.declared.Reading as reading
-use Rattle.trace.proofs.Both.{refuted}
-use Rattle.trace.proofs.Refusal.{few-rows, few-events}
-use Rattle.spy.proofs.Seen.{promised-file}
+use Rattle.trace.specs.declared.Cause.the-variants.{ShortBuffer}
+use Rattle.trace.proofs.Causes.{number-range}
+use Rattle.trace.proofs.Told.{told-place}
+use Rattle.trace.proofs.Promised.{promises}
 use Rattle.judge.specs.Judged.{RuleAt, lowest, note, message, RuleBytes, Judged, refused, short, illegal, accepted}
 use Rattle.judge.specs.declared.reply.Verdict.{Verdict}
 use Rattle.judge.specs.declared.reply.Verdict.the-variants.{Refused, Illegal, Accepted}
@@ -58,7 +56,7 @@ line e rule h k =
     let b = two-digits rule k in
     simp length-append (omega arith)
 
-lines : (rules : List ℕ) (n : ℕ) → n ≤ 512 → ((i : ℕ) → i < n → getD rules i 0 < 100) → length (eventLines rules n) ≤ 7 * n
+lines : (rules : List ℕ) (n : ℕ) → n ≤ eventLimit → ((i : ℕ) → i < n → getD rules i 0 < 100) → length (eventLines rules n) ≤ 7 * n
 unfolding eventLines
 lines rules zero h f = omega arith
 lines rules (suc n) h f =
@@ -87,43 +85,14 @@ small-rule (lowest f l n) = small-step f
 small-rule (note x) = omega arith
 small-rule (message x) = omega arith
 
--- a refusal's number and place
-module _ (file : List ℕ) where
-  right : (¬ Wrong file WrongContents) → wrongContents (headerOf file) (length file) ≡ false
-  right n = refuted _ (λ e. n (table.contents e))
-
-  small-place : {c : Cause} → Wrong file c → ((d : Cause) → numberOf d < numberOf c → ¬ Wrong file d) → placeOf c < 10000
-  small-place (table.short l) n = omega arith
-  small-place (table.version e) n = omega arith
-  small-place (table.set e) n = omega arith
-  small-place (table.contents e) n = omega arith
-  small-place (table.row l) n =
-      let f = few-rows (headerOf file) (length file) (right (n WrongContents (omega arith))) in omega (arith, l .below)
-  small-place (table.repeated l) n =
-      let f = few-rows (headerOf file) (length file) (right (n WrongContents (omega arith))) in omega (arith, l .below)
-  small-place (table.event l) n =
-      let f = few-events (headerOf file) (length file) (right (n WrongContents (omega arith))) in omega (arith, l .below)
-
-  small-number : {c : Cause} → Wrong file c → numberOf c < 10
-  small-number (table.short l) = omega arith
-  small-number (table.version e) = omega arith
-  small-number (table.set e) = omega arith
-  small-number (table.contents e) = omega arith
-  small-number (table.row l) = omega arith
-  small-number (table.repeated l) = omega arith
-  small-number (table.event l) = omega arith
-
-refusal : (rules : List ℕ) (c : Cause) → numberOf c < 10 → placeOf c < 10000 → length (textOf (Refused c) rules) ≤ 3600
+refusal : (rules : List ℕ) (c : Cause) → placeOf c < 10000 → length (textOf (Refused c) rules) ≤ 3600
 unfolding eventLines lastLine
-refusal rules c h k =
-    let a = one-digit (numberOf c) h in
+refusal rules c k =
+    let a = one-digit (numberOf c) (omega (arith, number-range c .1)) in
     let b = four-digits (placeOf c) k in
     simp length-append (omega arith)
 
-told-refusal : (file rules : List ℕ) (c : Cause) → Told file (reading.the-variants.Refused c) → length (textOf (Refused c) rules) ≤ 3600
-told-refusal file rules c (table.refused w n) = refusal rules c (small-number file w) (small-place file w n)
-
-module _ (file before : List ℕ) (n : ℕ) (after : List ℕ) (b : RuleBytes file n before after) (few : n ≤ 512) where
+module _ (file before : List ℕ) (n : ℕ) (after : List ℕ) (b : RuleBytes file n before after) (few : n ≤ eventLimit) where
   all-lines : length (eventLines after n) ≤ 3584
   all-lines = let l = lines after n few (λ i h. small-rule (b .rules i h)) in omega arith
 
@@ -142,17 +111,17 @@ module _ (file before : List ℕ) (n : ℕ) (after : List ℕ) (b : RuleBytes fi
       simp length-append (omega arith)
 
 pub short-text : ShortText
-short-text file before v rules (refused {c = c} t) = told-refusal file rules c t
-short-text file before v rules (short t l) = refusal rules ShortBuffer (omega arith) (omega arith)
+short-text file before v rules (refused {c = c} t) = refusal rules c (omega (arith, told-place file c t))
+short-text file before v rules (short t l) = refusal rules ShortBuffer (omega arith)
 short-text file before v rules (illegal {n = n} t r l k b) =
-    let P = promised-file file t in illegal-text file before n rules b (omega (arith, P .few-events))
+    let P = promises file t in illegal-text file before n rules b (omega (arith, P .few-events))
 short-text file before v rules (accepted {n = n} t r g e b) =
-    let P = promised-file file t in accepted-text file before n rules b (omega (arith, P .few-events))
+    let P = promises file t in accepted-text file before n rules b (omega (arith, P .few-events))
 
 pub reported : (file before after : List ℕ) (n : ℕ) (v : Verdict) (rules : List ℕ) → length before ≡ 4096 →
-    Judged file (replicate 512 0) v rules → Put before 0 (textOf v rules) after n → Reported file before n after
+    Judged file (replicate eventLimit 0) v rules → Put before 0 (textOf v rules) after n → Reported file before n after
 reported file before after n v rules e j p =
-    let h : length (textOf v rules) ≤ length before = omega (arith, short-text file (replicate 512 0) v rules j) in
+    let h : length (textOf v rules) ≤ length before = omega (arith, short-text file (replicate eventLimit 0) v rules j) in
     record {
       verdict = v;
       rules = rules;

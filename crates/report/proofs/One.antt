@@ -4,6 +4,7 @@ use Prim.Native.Nat.{ℕ}
 use mathlib.Core.List.{List, _++_}
 use mathlib.Core.Path.{_≡_, sym, ap, _∙_}
 use lib.ListN.{length, drop, replicate}
+use Rattle.trace.specs.File.{eventLimit}
 use Rattle.judge.specs.declared.reply.Verdict.{Verdict}
 use Rattle.judge.proofs.One.{one-verdict}
 use Rattle.report.specs.Text.{textOf}
@@ -14,6 +15,6 @@ same-text {v} {w} {rules} {rules′} e = ap (λ (x : Verdict). textOf x rules) (
 
 pub one-text : OneText
 one-text file before n m after after′ r s =
-    let e = same-text (one-verdict file (replicate 512 0) _ _ _ _ (r .judged) (s .judged)) in
+    let e = same-text (one-verdict file (replicate eventLimit 0) _ _ _ _ (r .judged) (s .judged)) in
     let l : n ≡ m = r .size ∙ ap length e ∙ sym (s .size) in
     (l, r .text ∙ ap (λ (t : List ℕ). t ++ drop n before) e ∙ ap (λ (k : ℕ). textOf (s .verdict) (s .rules) ++ drop k before) l ∙ sym (s .text))

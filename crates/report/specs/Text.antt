@@ -5,6 +5,7 @@ use mathlib.Core.List.{List, [], _∷_, _++_}
 use mathlib.Core.Path.{_≡_}
 use lib.Dec.{ltb}
 use lib.ListN.{length, getD, drop, replicate}
+use Rattle.trace.specs.File.{eventLimit}
 use Rattle.trace.specs.Refusal.{numberOf, placeOf}
 use Rattle.judge.specs.Judged.{Judged, verdictLength}
 use Rattle.judge.specs.declared.reply.Verdict.{Verdict}
@@ -55,6 +56,6 @@ textOf v rules = eventLines rules (verdictLength v) ++ lastLine v
 pub record Reported (file before : List ℕ) (n : ℕ) (after : List ℕ) : Type 0 where
   pub verdict : Verdict
   pub rules : List ℕ
-  pub judged : Judged file (replicate 512 0) verdict rules
+  pub judged : Judged file (replicate eventLimit 0) verdict rules
   pub size : n ≡ length (textOf verdict rules)
   pub text : after ≡ textOf verdict rules ++ drop n before

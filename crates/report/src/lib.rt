@@ -1,6 +1,7 @@
 // The text that the bench's small program prints: a line for each event of the accepted beginning, then the verdict.
 use judge::reply::Verdict;
 use trace::Cause;
+use trace::limits::EVENT_LIMIT;
 ghost use mathlib.Core.Path.{_≡_};
 ghost use mathlib.Core.List.{_∷_, []};
 ghost use Prim.Native.Nat.{_+_, _%_};
@@ -8,6 +9,9 @@ ghost use lib.ListN.{getD};
 ghost use Rattle.report.specs.Page.{Put};
 ghost use Rattle.report.specs.Text.{digits, eventLine, eventLines, lastLine, textOf, Reported};
 ghost use Rattle.judge.specs.declared.reply.Verdict.the-variants.{Refused, Illegal, Accepted};
+
+// A text has at most 3,600 bytes.
+pub const TEXT_ROOM: usize = 4096;
 
 const SPACE: u8 = b' ';
 
@@ -128,10 +132,10 @@ fn text(v: Verdict, rules: &[u8], out: &mut [u8]) -> usize
 }
 
 // The text of the verdict on a file.
-pub fn report(file: &[u8], out: &mut [u8; 4096]) -> usize
+pub fn report(file: &[u8], out: &mut [u8; TEXT_ROOM]) -> usize
     ensures { λ n. ⌜ Reported (now (file .entry)) (now (out .entry)) n (now (out .exit)) ⌝ }
 {
-    let mut rules = [0u8; 512];
+    let mut rules = [0u8; EVENT_LIMIT];
     let v = judge::verdict(file, &mut rules);
     text(v, &rules, out)
 }

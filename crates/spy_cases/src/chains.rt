@@ -1,5 +1,6 @@
 // The longest chains that a file holds: pairs of pairs, ciphertexts of ciphertexts, and keys that open the next key.
 use super::files;
+use trace::limits::ROWS;
 
 // Kinds of rows.
 pub const NUMBER: usize = 1;
@@ -19,20 +20,18 @@ const SPY: usize = 1;
 
 const SPY_AND_3: usize = 9;
 
-pub const FULL: u16 = 1024;
-
-const TOP: u16 = 1023;
+const TOP: u16 = ROWS - 1;
 
 // Row 0, then each row the pair of the row below with itself; the top is said.
 pub fn pairs(file: &mut [u8], bottom: usize) {
-    files::put_header(file, SPY, FULL, 1);
+    files::put_header(file, SPY, ROWS, 1);
     files::put_row(file, 0, bottom, 10, 0, 0);
     let mut r: u16 = 1;
-    while r < FULL {
+    while r < ROWS {
         files::put_row(file, r, PAIR, r - 1, r - 1, 0);
         r += 1;
     }
-    files::put_says(file, FULL, 0, TOP);
+    files::put_says(file, ROWS, 0, TOP);
 }
 
 // The key of a nested ciphertext: agent 3's public key in row 0, or the session key in row 2.
@@ -42,13 +41,13 @@ fn nested_key(r: u16) -> u16 {
 
 // Rows 0 to 3 are two keys, the session key's nonce and the bottom; the others encrypt the row below.
 fn nested(file: &mut [u8], bottom: usize, events: u16) {
-    files::put_header(file, SPY_AND_3, FULL, events);
+    files::put_header(file, SPY_AND_3, ROWS, events);
     files::put_row(file, 0, PUBLIC_KEY, 3, 0, 0);
     files::put_row(file, 1, NONCE, 10, 0, 0);
     files::put_row(file, 2, SESSION_KEY, 1, 1, 1);
     files::put_row(file, 3, bottom, 11, 0, 0);
     let mut r: u16 = 4;
-    while r < FULL {
+    while r < ROWS {
         files::put_row(file, r, CRYPT, nested_key(r), r - 1, 0);
         r += 1;
     }
@@ -57,16 +56,16 @@ fn nested(file: &mut [u8], bottom: usize, events: u16) {
 // The outermost ciphertext is said, then the session key: what the key opens was there before it.
 pub fn opened(file: &mut [u8]) {
     nested(file, NONCE, 2);
-    files::put_says(file, FULL, 0, TOP);
-    files::put_says(file, FULL, 1, 2);
+    files::put_says(file, ROWS, 0, TOP);
+    files::put_says(file, ROWS, 1, 2);
 }
 
 // Both keys are said, which makes every ciphertext of a Number; then the outermost is said.
 pub fn made(file: &mut [u8]) {
     nested(file, NUMBER, 3);
-    files::put_says(file, FULL, 0, 0);
-    files::put_says(file, FULL, 1, 2);
-    files::put_says(file, FULL, 2, TOP);
+    files::put_says(file, ROWS, 0, 0);
+    files::put_says(file, ROWS, 1, 2);
+    files::put_says(file, ROWS, 2, TOP);
 }
 
 // Links: 8 nonces, then 508 session keys over them, then 507 ciphertexts, each of a key under its neighbour.

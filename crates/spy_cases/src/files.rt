@@ -1,10 +1,7 @@
 // Writes the parts of a trace file into lent bytes; what lies past their end is left out.
-const ITEM: usize = 8;
-
-const ROWS_AT: usize = 20;
-
-// The longest file.
-pub const ROOM: usize = 12308;
+use trace::limits::ITEM;
+use trace::limits::LONGEST_FILE;
+use trace::limits::ROWS_AT;
 
 pub fn put(file: &mut [u8], at: usize, value: usize) {
     if at < file.len() {
@@ -13,7 +10,7 @@ pub fn put(file: &mut [u8], at: usize, value: usize) {
 }
 
 fn put_word(file: &mut [u8], at: usize, value: usize) {
-    if at < ROOM {
+    if at < LONGEST_FILE {
         put(file, at, value);
         put(file, at + 1, value / 256);
     }

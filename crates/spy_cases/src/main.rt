@@ -5,6 +5,9 @@ mod files;
 use libc::STDOUT_FILENO;
 use spy::Answer;
 use trace::Cause;
+use trace::limits::LONGEST_FILE;
+use trace::limits::ROW_LIMIT;
+use trace::limits::ROWS;
 
 // The sample's length, two places and their new bytes, n, and the room that is lent.
 const CASES: [[usize; 7]; 27] = [
@@ -118,7 +121,7 @@ fn ask_samples() {
 // One more if the byte is the mark; the bound, which no file reaches, keeps the sum safe.
 fn counted(found: usize, byte: u8, mark: u8) -> usize {
     if byte == mark {
-        if found < files::ROOM {
+        if found < LONGEST_FILE {
             return found + 1;
         }
     }
@@ -156,39 +159,39 @@ fn ask_long(case: usize, file: &[u8], rows: u16, events: u16, n: u16) {
     if file.len() < size {
         return;
     }
-    let mut marks = [FRESH; 1026];
+    let mut marks = [FRESH; ROW_LIMIT + 2];
     print_case(case);
     print_answer(spy::knowledge(&file[0..size], n as usize, &mut marks));
     print_long(&marks, rows);
 }
 
 fn ask_pairs(case: usize, bottom: usize) {
-    let mut file = [0u8; files::ROOM];
+    let mut file = [0u8; LONGEST_FILE];
     chains::pairs(&mut file, bottom);
-    ask_long(case, &file, chains::FULL, 1, 0);
-    ask_long(case, &file, chains::FULL, 1, 1);
+    ask_long(case, &file, ROWS, 1, 0);
+    ask_long(case, &file, ROWS, 1, 1);
 }
 
 fn ask_opened(case: usize) {
-    let mut file = [0u8; files::ROOM];
+    let mut file = [0u8; LONGEST_FILE];
     chains::opened(&mut file);
-    ask_long(case, &file, chains::FULL, 2, 0);
-    ask_long(case, &file, chains::FULL, 2, 1);
-    ask_long(case, &file, chains::FULL, 2, 2);
+    ask_long(case, &file, ROWS, 2, 0);
+    ask_long(case, &file, ROWS, 2, 1);
+    ask_long(case, &file, ROWS, 2, 2);
 }
 
 fn ask_made(case: usize) {
-    let mut file = [0u8; files::ROOM];
+    let mut file = [0u8; LONGEST_FILE];
     chains::made(&mut file);
-    ask_long(case, &file, chains::FULL, 3, 0);
-    ask_long(case, &file, chains::FULL, 3, 1);
-    ask_long(case, &file, chains::FULL, 3, 2);
-    ask_long(case, &file, chains::FULL, 3, 3);
+    ask_long(case, &file, ROWS, 3, 0);
+    ask_long(case, &file, ROWS, 3, 1);
+    ask_long(case, &file, ROWS, 3, 2);
+    ask_long(case, &file, ROWS, 3, 3);
 }
 
 // Before the last event, and after it.
 fn ask_links(case: usize, falling: bool) {
-    let mut file = [0u8; files::ROOM];
+    let mut file = [0u8; LONGEST_FILE];
     chains::links(&mut file, falling);
     ask_long(
         case,

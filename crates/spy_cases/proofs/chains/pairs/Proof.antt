@@ -4,14 +4,15 @@ use Prim.Native.Nat.{_≤_, _-_}
 use mathlib.Core.Path.{_≡_}
 use lib.ListN.{length}
 use borrow.Author.Needs.{needs}
+use Rattle.trace.specs.File.{rowLimit}
 use Rattle.spy_cases.proofs.chains.pairs.Statement.{statement}
 use Rattle.spy_cases.proofs.chains.pairs.Tie as tie
 
 abbrev Inv-loop : tie.InvT-loop
-Inv-loop file₀ bottom r₀ file r = (1 ≤ r) × (r ≤ 1024) × (length file ≡ length file₀)
+Inv-loop file₀ bottom r₀ file r = (1 ≤ r) × (r ≤ rowLimit) × (length file ≡ length file₀)
 
 abbrev μ-loop : tie.MeasureT-loop
-μ-loop file₀ bottom r₀ file r = 1024 - r
+μ-loop file₀ bottom r₀ file r = rowLimit - r
 
 put-header-requires : tie.Need-put-header-requires Inv-loop μ-loop
 put-header-requires c κs = search needs
