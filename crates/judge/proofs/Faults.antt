@@ -113,10 +113,15 @@ fixed file (event t) = inl (_, t, refl)
 fixed file (refused {c = c} t l) = inl (c, t, rw (lt-ltb (numberOf c) 5 l) refl)
 fixed file (illegal {n = n} t g l) = inr (t, (n, omega arith, g, rw (lt-ltb n (eventsOf file) l) refl))
 fixed file (accepted t g) =
-    inr
-    (t,
-    (eventsOf file, omega arith, record { accepted = g; longest = λ m l le. absurd (omega arith) },
-    rw (le-ltb (eventsOf file) (eventsOf file) (omega arith)) refl))
+    inr (
+      t,
+      (
+        eventsOf file,
+        omega arith,
+        record { accepted = g; longest = λ m l le. absurd (omega arith) },
+        rw (le-ltb (eventsOf file) (eventsOf file) (omega arith)) refl,
+      ),
+    )
 
 fixed-one : (file : List ℕ) (s t : Span) → Fixed file s → Fixed file t → s ≡ t
 fixed-one file s t (inl (c, a, e)) (inl (d, b, f)) = e ∙ ap (byCause file) (same-cause file a b) ∙ sym f

@@ -36,11 +36,12 @@ pub refuses : Refuses
 refuses file before v after judged =
     record {
       unwritten = judged-unwritten judged;
-      exactly = λ k p l.
-          (λ (e, q). rw (← e, ← q) (judged-line judged (omega arith)),
-          λ line.
-              let h = line-judged line in
-              let same = one-verdict file before v (Refused (h .0)) after before judged (h .1) .0 in
-              (ap verdictNumber same ∙ h .2, ap verdictPlace same ∙ h .3));
+      exactly = λ k p l. (
+        λ (e, q). rw (← e, ← q) (judged-line judged (omega arith)),
+        λ line.
+            let h = line-judged line in
+            let same = one-verdict file before v (Refused (h .0)) after before judged (h .1) .0 in
+            (ap verdictNumber same ∙ h .2, ap verdictPlace same ∙ h .3),
+      );
       longest = λ e. view judged e .longest;
     }

@@ -10,6 +10,7 @@ use Rattle.trace.specs.File.{eventsOf}
 use Rattle.trace.specs.Refusal.{Told}
 use Rattle.trace.specs.declared.Reading.the-variants.{Readable}
 use Rattle.trace.proofs.Causes.{number-range}
+use Rattle.trace.proofs.Told.{told-readable}
 use Rattle.judge.specs.Judged.{RuleBytes, Longest, Judged, refused, short, illegal, accepted, verdictNumber, verdictLength}
 use Rattle.judge.specs.Reply.{verdictAt}
 use Rattle.judge.specs.declared.reply.Verdict.{Verdict}
@@ -37,6 +38,14 @@ view {file} (accepted {n = n} t room g q b) e =
       is = rw (le-ltb n (eventsOf file) (omega arith)) refl;
       bytes = b;
     }
+
+-- a readable file with room is not refused
+pub readable-view : {file before : List ℕ} {v : Verdict} {after : List ℕ} → Judged file before v after → Told file Readable →
+    eventsOf file ≤ length before → View file before v after
+readable-view {file} (refused t) u l = absurd (told-readable file t u)
+readable-view (short t s) u l = absurd (omega arith)
+readable-view (illegal t room g k b) u l = view (illegal t room g k b) refl
+readable-view (accepted t room g e b) u l = view (accepted t room g e b) refl
 
 module _ {file before lent : List ℕ} {v w : Verdict} {after marks : List ℕ} (a : View file before v after) (b : View file lent w marks) where
   same-length : verdictLength v ≡ verdictLength w

@@ -3,3 +3,4 @@ pub mod Numbers
 pub mod Lines
 pub mod Fits
 pub mod One
+pub mod Sample

@@ -1,8 +1,8 @@
--- The lines of the text, as the code puts them together, and the sample's text.
+-- The lines of the text, as the code puts them together.
 -- Assumes nothing.
 use Prim.Native.Nat.{ℕ, _+_, _/_, _%_, _<_, _≤_}
 use mathlib.Core.List.{List, [], _∷_}
-use mathlib.Core.Path.{_≡_, refl}
+use mathlib.Core.Path.{_≡_}
 use native.Mathlib.Numerals.{add-one}
 use lib.ListN.{getD}
 use Rattle.report.specs.Page.{Put}
@@ -10,8 +10,7 @@ use Rattle.trace.specs.Refusal.{numberOf, placeOf}
 use Rattle.trace.specs.declared.Cause.{Cause}
 use Rattle.judge.specs.declared.reply.Verdict.{Verdict}
 use Rattle.judge.specs.declared.reply.Verdict.the-variants.{Refused, Illegal, Accepted}
-use Rattle.report.specs.Text.{digitsWithin, digits, space, newline, refusedWord, illegalWord, acceptedWord, eventLine, eventLines, lastLine, textOf}
-use Rattle.report.specs.Promises.{SampleText}
+use Rattle.report.specs.Text.{digits, space, newline, refusedWord, illegalWord, acceptedWord, eventLine, eventLines, lastLine, textOf}
 use Rattle.report.proofs.Pages.{put-none, put-then}
 use Rattle.report.proofs.Numbers.{digits-one, digits-more}
 
@@ -65,7 +64,3 @@ module _ {a : List ℕ} {i : ℕ} where
   pub text-accepted : {b c : List ℕ} {j k : ℕ} (v : Verdict) (rules : List ℕ) (n : ℕ) → v ≡ Accepted n →
       Put a i (eventLines rules n) b j → Put b j (lastLine (Accepted n)) c k → Put a i (textOf v rules) c k
   text-accepted v rules n e p q = rw e (put-then p q)
-
-pub sample-text : SampleText
-unfolding digitsWithin eventLine eventLines lastLine
-sample-text = refl

@@ -1,11 +1,11 @@
 -- What the text promises: its numbers are decimal, a file has one text, and that is short.
 use Prim.Native.Nat.{ℕ, _+_, _*_, _-_, _<_, _≤_}
-use mathlib.Core.List.{List, [], _∷_}
+use mathlib.Core.List.{List, [], _∷_, _++_}
 use mathlib.Core.Path.{_≡_}
-use lib.ListN.{length, getD}
+use lib.ListN.{length, getD, drop}
+use Rattle.trace.specs.Sample.{sample}
 use Rattle.judge.specs.Judged.{Judged}
 use Rattle.judge.specs.declared.reply.Verdict.{Verdict}
-use Rattle.judge.specs.declared.reply.Verdict.the-variants.{Accepted}
 use Rattle.report.specs.Text.{digits, textOf, Reported}
 
 -- the number that digits say, the first digit first
@@ -38,8 +38,13 @@ abbrev pub ShortText : Type 0
 ShortText = (file before : List ℕ) (v : Verdict) (rules : List ℕ) → Judged file before v rules → length (textOf v rules) ≤ 3600
 
 -- what document 01 prints for the sample, P2
-abbrev pub SampleText : Type 0
-SampleText =
-    textOf (Accepted 6) (3 ∷ 4 ∷ 5 ∷ 6 ∷ 6 ∷ 1 ∷ []) ≡
+abbrev pub sampleText : List ℕ
+sampleText =
     48 ∷ 32 ∷ 51 ∷ 10 ∷ 49 ∷ 32 ∷ 52 ∷ 10 ∷ 50 ∷ 32 ∷ 53 ∷ 10 ∷ 51 ∷ 32 ∷ 54 ∷ 10 ∷ 52 ∷ 32 ∷ 54 ∷ 10 ∷ 53 ∷ 32 ∷ 49 ∷ 10 ∷
     97 ∷ 99 ∷ 99 ∷ 101 ∷ 112 ∷ 116 ∷ 101 ∷ 100 ∷ 32 ∷ 54 ∷ 10 ∷ []
+
+-- and that is the text of the sample
+abbrev pub SampleText : Type 0
+SampleText =
+    (before : List ℕ) (n : ℕ) (after : List ℕ) → Reported sample before n after →
+    (n ≡ length sampleText) × (after ≡ sampleText ++ drop n before)

@@ -128,10 +128,11 @@ pub refuses : Refuses
 refuses f n before a after knows =
     record {
       unwritten = knows-unwritten knows;
-      exactly = λ k p l.
-          (λ (e, q). rw (← e, ← q) (knows-line knows (omega arith)),
-          λ line.
-              let h = line-knows line in
-              let same = one-answer f n before a (Refused (h .0)) after before knows (h .1) .0 in
-              (ap answerNumber same ∙ h .2, ap answerPlace same ∙ h .3));
+      exactly = λ k p l. (
+        λ (e, q). rw (← e, ← q) (knows-line knows (omega arith)),
+        λ line.
+            let h = line-knows line in
+            let same = one-answer f n before a (Refused (h .0)) after before knows (h .1) .0 in
+            (ap answerNumber same ∙ h .2, ap answerPlace same ∙ h .3),
+      );
     }
