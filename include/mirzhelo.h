@@ -15,7 +15,7 @@
  *     them during the call;
  *   - the buffer and the file share no byte;
  *   - a length is at most PTRDIFF_MAX. A pointer with length 0 is never followed;
- *   - the stack has room: no proof bounds it; the deepest file takes 108,008 bytes (docs/PERFORMANCE.md).
+ *   - the stack has room: no proof bounds it; docs/PERFORMANCE.md, "Stack", has what was measured on the deepest file.
  * All else is proved for every file, every buffer and every n (crates/cabi): a call ends, stays within the bytes lent to
  * it, and returns the one number that its contract allows.
  */
@@ -34,7 +34,7 @@ extern "C" {
  *
  *   0x0000NNNN   mz_verdict: accepted, N events (0 to 512). mz_knowledge: 0, the marks are written.
  *   0x1000NNNN   mz_verdict only: illegal, the longest accepted beginning has N events (0 to 511).
- *   0x200CPPPP   refused: C is the number (1 to 9) and P the place.
+ *   0x20CCPPPP   refused: C is the number (1 to 9) and P the place.
  *
  *    C   given exactly when                                                                place P
  *    1   fewer than 20 bytes                                                               0
@@ -59,7 +59,7 @@ extern "C" {
 #define MZ_LENGTH(reply) ((uint32_t)(reply) & UINT32_C(0xFFFF))
 
 /* C and P of a refusal. */
-#define MZ_CAUSE(reply) (((uint32_t)(reply) >> 16) & UINT32_C(0xF))
+#define MZ_CAUSE(reply) (((uint32_t)(reply) >> 16) & UINT32_C(0xFF))
 #define MZ_PLACE(reply) ((uint32_t)(reply) & UINT32_C(0xFFFF))
 
 /*

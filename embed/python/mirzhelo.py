@@ -1,6 +1,8 @@
-"""The proved judge from Python, over the archive linked as a shared library.
+"""The proved judge from Python, over the archive linked as a shared library (README.md, "Embedding it", has the command).
 
     python3 mirzhelo.py LIBRARY FILE..    asks the three questions about each file, and prints the replies
+
+LIBRARY is a path with a slash in it, as ./libmirzhelo.so: a bare name is looked for among the system's libraries.
 """
 import ctypes
 import sys

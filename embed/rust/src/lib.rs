@@ -10,7 +10,7 @@ extern "C" {
     fn mz_fault(file: *const u8, file_len: usize) -> u32;
 }
 
-/// Why a question is refused: document 01's number and place.
+/// Why a question is refused: the number of the cause, and the place.
 #[derive(Clone, Copy, Debug, PartialEq, Eq)]
 pub struct Refusal {
     pub cause: u32,

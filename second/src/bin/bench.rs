@@ -1,4 +1,4 @@
-//! Times the judge's archive and this plain program on the same files, in one run.
+//! Times the judge's archive and the second program, this one, on the same files, in one run.
 
 use second::archive;
 use second::file::{MAX_EVENTS, MAX_ROWS};
@@ -36,8 +36,9 @@ fn main() {
         "filled with {FILLING:#x} before the call, outside the clock. Calls shorter than {} microseconds",
         TIME_PER_READING.as_micros()
     );
-    println!("are timed several at once. A ratio says how many times longer this program takes than the archive.\n");
-    println!("| file | bytes | reply | verdict: archive | this | ratio | knowledge: archive | this | ratio |");
+    println!("are timed several at once. The columns \"archive\" and \"second\" are the times of the two");
+    println!("programs; a ratio says how many times longer the second one takes.\n");
+    println!("| file | bytes | reply | verdict: archive | second | ratio | knowledge: archive | second | ratio |");
     println!("|---|--:|---|--:|--:|--:|--:|--:|--:|");
     for (name, file) in &files {
         let (verdict, knowledge) = (Times::of_verdict(file), Times::of_knowledge(file));
@@ -45,7 +46,7 @@ fn main() {
     }
 
     println!("\nGrowth with the number of events, in microseconds.\n");
-    println!("| shape | events | rows | verdict: archive | this | ratio | knowledge: archive | this | ratio |");
+    println!("| shape | events | rows | verdict: archive | second | ratio | knowledge: archive | second | ratio |");
     println!("|---|--:|--:|--:|--:|--:|--:|--:|--:|");
     let shapes: [(&str, full_size::Shape); 3] = [
         ("handshakes", full_size::handshakes),
@@ -121,7 +122,7 @@ fn own_knowledge(file: &[u8], n: usize, marks: &mut [u8]) -> u32 {
 /// The times of both programs for one question, in microseconds.
 struct Times {
     archive: f64,
-    this: f64,
+    second: f64,
 }
 
 impl Times {
@@ -130,7 +131,7 @@ impl Times {
         assert_eq!(ours, archive::verdict(file, &mut [0; MAX_EVENTS]));
         Times {
             archive: median(MAX_EVENTS, |rules| archive::verdict(black_box(file), rules)),
-            this: median(MAX_EVENTS, |rules| own_verdict(black_box(file), rules)),
+            second: median(MAX_EVENTS, |rules| own_verdict(black_box(file), rules)),
         }
     }
 
@@ -143,15 +144,15 @@ impl Times {
         assert_eq!(ours, archive::knowledge(file, n, &mut [0; MAX_ROWS]));
         Times {
             archive: median(MAX_ROWS, |marks| archive::knowledge(black_box(file), n, marks)),
-            this: median(MAX_ROWS, |marks| own_knowledge(black_box(file), n, marks)),
+            second: median(MAX_ROWS, |marks| own_knowledge(black_box(file), n, marks)),
         }
     }
 }
 
 impl std::fmt::Display for Times {
     fn fmt(&self, f: &mut std::fmt::Formatter) -> std::fmt::Result {
-        let Times { archive, this } = self;
-        write!(f, "{archive:.2} | {this:.2} | {:.1}", this / archive)
+        let Times { archive, second } = self;
+        write!(f, "{archive:.2} | {second:.2} | {:.1}", second / archive)
     }
 }
 
