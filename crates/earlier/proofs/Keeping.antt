@@ -17,7 +17,7 @@ use Rattle.trace.specs.File.{eventLimit, agentLimit}
 use Rattle.trace.specs.Rows.{choose}
 use Rattle.trace.proofs.First.{lt-suc, bool-cases}
 use Rattle.trace.proofs.Both.{both3, both4}
-use Rattle.trace.proofs.Chain.{zeros}
+use Rattle.trace.proofs.Zeros.{zeros}
 use Rattle.earlier.specs.declared.Heard.{Heard}
 use Rattle.earlier.specs.declared.cards.Card.{Card}
 use Rattle.earlier.specs.Earlier.{heardAt, sameHeard}

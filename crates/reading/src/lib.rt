@@ -1,6 +1,5 @@
 // Refusals 1 to 7: the lowest number applies.
 mod header;
-mod search;
 
 use trace::AgentNo;
 use trace::Cause;
@@ -31,15 +30,15 @@ fn read_items(file: &[u8], rows: u16, events: u16) -> Reading
     requires { ⌜ rows ≤ rowLimit ⌝ }
     ensures { λ r. ⌜ r ≡ readItems (now (file .entry)) rows events ⌝ }
 {
-    let bad = search::first_bad_row(file, rows);
+    let bad = row_lines::first_bad_row(file, rows);
     if bad < rows {
         return Reading::Refused(Cause::BadRow(RowNo(bad)));
     }
-    let repeated = search::first_repeated_row(file, rows);
+    let repeated = repeats::first_repeated_row(file, rows);
     if repeated < rows {
         return Reading::Refused(Cause::RepeatedRow(RowNo(repeated)));
     }
-    let event = search::first_bad_event(file, rows, events);
+    let event = event_lines::first_bad_event(file, rows, events);
     if event < events {
         return Reading::Refused(Cause::BadEvent(EventNo(event)));
     }

@@ -1,4 +1,5 @@
 pub mod First
+pub mod Zeros
 pub mod Both
 pub mod Causes
 pub mod Lines
@@ -7,7 +8,6 @@ pub mod Fits
 pub mod Tested
 pub mod Refusal
 pub mod Told
-pub mod Chain
 pub mod Fault
 pub mod Keeps
 pub mod Meaning

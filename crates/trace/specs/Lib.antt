@@ -10,4 +10,3 @@ pub mod Reading
 pub mod Spans
 pub mod Promises
 pub mod Sample
-pub mod Chain
