@@ -11,7 +11,8 @@ use lib.Dec.{ltb, leb}
 use borrow.Author.Tests.{ltb-true, lt-ltb, le-ltb, le-leb, lt-leb, ne-eqb}
 use lib.ListN.{getD, set}
 use Rattle.trace.specs.File.{rowLimit}
-use Rattle.trace.specs.Rows.{kindAt, fieldsAt, rowAt}
+use Rattle.trace.specs.Rows.{kindAt, fieldsAt}
+use Rattle.trace.specs.Kinds.{rowAt}
 use Rattle.trace.specs.declared.Row.{Row}
 use Rattle.trace.specs.declared.rows.Fields.{Fields}
 use Rattle.trace.proofs.Both.{or-true, or-none}

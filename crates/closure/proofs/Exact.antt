@@ -14,7 +14,7 @@ use Rattle.paper.specs.Event.{trace, here, there}
 use Rattle.paper.specs.Spy.{Starts, own, Spies, start, said, noted, Analz, inj, fst, snd, decrypt}
 use Rattle.paper.proofs.Closures.{analz-mono}
 use Rattle.trace.specs.File.{rowLimit, agentLimit, rowsOf, compromisedIn}
-use Rattle.trace.specs.Rows.{rowAt}
+use Rattle.trace.specs.Kinds.{rowAt}
 use Rattle.trace.specs.Meaning.{message, eventMeant, bad}
 use Rattle.trace.specs.Promises.{Promised, Keeps, crypt, pair, Unfolds, asPublic, asPrivate, asSession, asCrypt, asPair, Exists, says, notes}
 use Rattle.trace.specs.declared.AgentNo.{AgentNo}

@@ -12,7 +12,8 @@ use lib.Dec.{ltb}
 use lib.ListN.{length, set, length-set}
 use borrow.Author.Tests.{ltb-true, lt-ltb, lt-leb}
 use Rattle.trace.specs.File.{rowLimit, agentLimit, rowsOf}
-use Rattle.trace.specs.Rows.{fieldsAt, kindAt, rowAt}
+use Rattle.trace.specs.Rows.{fieldsAt, kindAt}
+use Rattle.trace.specs.Kinds.{rowAt}
 use Rattle.trace.specs.Promises.{Promised, Keeps, agent, number, nonce, prf, publicKey, privateKey, sessionKey, hash, crypt, pair}
 use Rattle.trace.specs.declared.Row.{Row}
 use Rattle.trace.specs.declared.Row.the-variants.{Agent, Number, Nonce, Prf, PublicKey, PrivateKey, SessionKey, Hash, Crypt, Pair}

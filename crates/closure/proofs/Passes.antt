@@ -9,7 +9,8 @@ use native.Mathlib.Omega.{arith}
 use native.Mathlib.Decide.{ℕ-discrete}
 use lib.ListN.{length}
 use Rattle.trace.specs.File.{rowLimit, rowsOf}
-use Rattle.trace.specs.Rows.{choose, kindAt, rowAt}
+use Rattle.trace.specs.Rows.{choose, kindAt}
+use Rattle.trace.specs.Kinds.{rowAt}
 use Rattle.trace.specs.Promises.{Promised}
 use Rattle.trace.proofs.Both.{refuted, or-false, or-false-right}
 use Rattle.trace.proofs.First.{bool-cases, lt-suc}

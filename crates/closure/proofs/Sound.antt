@@ -13,7 +13,8 @@ use borrow.Author.Tests.{ltb-true, lt-leb}
 use Rattle.paper.specs.Message as paper
 use Rattle.paper.specs.Spy.{Analz, fst, snd, decrypt}
 use Rattle.trace.specs.File.{rowLimit, agentLimit, rowsOf}
-use Rattle.trace.specs.Rows.{kindAt, rowAt}
+use Rattle.trace.specs.Rows.{kindAt}
+use Rattle.trace.specs.Kinds.{rowAt}
 use Rattle.trace.specs.Meaning.{message}
 use Rattle.trace.specs.Promises.{Promised, Keeps, Unfolds, asAgent, asNumber, asNonce, asPrf, asPublic, asPrivate, asSession, asHash, asCrypt, asPair, publicKey, privateKey, crypt}
 use Rattle.trace.specs.declared.Row.{Row}

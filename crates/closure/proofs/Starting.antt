@@ -13,8 +13,9 @@ use borrow.Author.Tests.{ltb-true}
 use Rattle.paper.specs.Message as paper
 use Rattle.paper.specs.Spy.{Starts, own, Spies, start, Analz, inj}
 use Rattle.trace.specs.File.{rowLimit, agentLimit, rowsOf, eventsOf, compromisedIn}
-use Rattle.trace.specs.Rows.{choose, rowAt}
+use Rattle.trace.specs.Rows.{choose}
 use Rattle.trace.specs.Events.{eventAt}
+use Rattle.trace.specs.Kinds.{rowAt}
 use Rattle.trace.specs.Meaning.{message, bad, beginning}
 use Rattle.trace.specs.Promises.{Promised, Keeps, agent, number, nonce, prf, publicKey, privateKey, sessionKey, hash, crypt, pair, Unfolds, asPrivate}
 use Rattle.trace.specs.declared.AgentNo.{AgentNo}

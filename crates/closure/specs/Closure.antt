@@ -6,8 +6,9 @@ use mathlib.Core.Path.{_≡_}
 use lib.Dec.{eqb, ltb, leb}
 use lib.ListN.{getD, set, replicate}
 use Rattle.trace.specs.File.{rowLimit, agentLimit, rowsOf, compromisedIn}
-use Rattle.trace.specs.Rows.{choose, kindAt, rowAt}
+use Rattle.trace.specs.Rows.{choose, kindAt}
 use Rattle.trace.specs.Events.{eventAt}
+use Rattle.trace.specs.Kinds.{rowAt}
 use Rattle.trace.specs.declared.Event.{Event}
 use Rattle.trace.specs.declared.Event.the-variants.{Says, Notes}
 use Rattle.closure.specs.declared.Sides.{Sides}

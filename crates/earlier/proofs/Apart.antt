@@ -6,7 +6,7 @@ use mathlib.Core.List.{List}
 use mathlib.Core.Path.{_≡_, refl, sym, _∙_}
 use lib.Dec.{eqb}
 use Rattle.paper.specs.Message.{Authority}
-use Rattle.trace.specs.Rows.{rowAt}
+use Rattle.trace.specs.Kinds.{rowAt}
 use Rattle.trace.specs.declared.Row.{Row}
 use Rattle.trace.specs.declared.Row.the-variants.{Number, Nonce, Prf, PublicKey, Pair}
 use Rattle.trace.proofs.Both.{both, both3, both4, refuted}

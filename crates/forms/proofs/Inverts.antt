@@ -7,7 +7,7 @@ use mathlib.Core.Path.{_≡_, refl, _∙_}
 use native.Mathlib.Omega.{arith}
 use Rattle.paper.specs.Message as paper
 use Rattle.trace.specs.File.{rowsOf, agentLimit}
-use Rattle.trace.specs.Rows.{rowAt}
+use Rattle.trace.specs.Kinds.{rowAt}
 use Rattle.trace.specs.Meaning.{message, roleMeant}
 use Rattle.trace.specs.Meaning as meaning
 use Rattle.trace.specs.Promises.{Promised, Keeps, agent, prf, publicKey, privateKey, sessionKey, hash, crypt, pair, Unfolds, asAgent, asNumber, asNonce, asPrf, asPublic, asPrivate, asSession, asHash, asCrypt, asPair}

@@ -2,7 +2,7 @@
 use Prim.Native.Nat.{ℕ}
 use mathlib.Core.Bool.{Bool, true, false}
 use mathlib.Core.List.{List}
-use Rattle.trace.specs.Rows.{rowAt}
+use Rattle.trace.specs.Kinds.{rowAt}
 use Rattle.trace.specs.declared.Role.{Role}
 use Rattle.trace.specs.declared.Role.the-variants.{Client, Server}
 use Rattle.trace.specs.declared.Row.{Row}

@@ -4,10 +4,10 @@ use Prim.Native.Nat.{ℕ}
 use mathlib.Core.List.{List}
 use mathlib.Core.Path.{_≡_, refl}
 use Rattle.trace.specs.File.{word, rowsOf, eventsOf}
-use Rattle.trace.specs.Sample.{over}
-use Rattle.trace.specs.Rows.{rowOf}
+use Rattle.trace.specs.Kinds.{rowOf}
 use Rattle.trace.specs.Tests.{lineOf}
 use Rattle.trace.specs.Reading.{reading, readItems}
+use Rattle.trace.specs.Sample.{over}
 use Rattle.trace.specs.First.{first, any}
 use Rattle.trace.specs.declared.Reading.the-variants.{Readable}
 use Rattle.closure.specs.Closure.{learnRow, upRows, downRows, passRows, settle, startKeys, startRows, knownAfter}

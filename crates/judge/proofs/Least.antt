@@ -12,7 +12,8 @@ use Rattle.paper.specs.Message.{agent}
 use Rattle.paper.specs.Event.{event, trace}
 use Rattle.paper.specs.Rules.{Step, Fake, SpyKeys, ClientHello, ServerHello, Certificate, CertVerify, ClientFinished, ServerFinished, ClientAccepts, ServerAccepts, ClientResume, ServerResume, Oops}
 use Rattle.trace.specs.File.{eventsOf}
-use Rattle.trace.specs.Rows.{choose, rowAt}
+use Rattle.trace.specs.Rows.{choose}
+use Rattle.trace.specs.Kinds.{rowAt}
 use Rattle.trace.specs.Reading.{reading}
 use Rattle.trace.specs.Promises.{Promised}
 use Rattle.trace.specs.declared.Row.{Row}

@@ -59,16 +59,10 @@ pub data Judged (file before : List ℕ) : Verdict → List ℕ → Type 0 where
 
 -- document 01's number and place of a refusal, 0 for none; and the length of the longest accepted beginning
 abbrev pub verdictNumber : Verdict → ℕ
-verdictNumber (Refused c) = numberOf c
-verdictNumber (Illegal n) = 0
-verdictNumber (Accepted n) = 0
+verdictNumber v = elim v [ Refused c ↦ numberOf c | Illegal n ↦ 0 | Accepted n ↦ 0 ]
 
 abbrev pub verdictPlace : Verdict → ℕ
-verdictPlace (Refused c) = placeOf c
-verdictPlace (Illegal n) = 0
-verdictPlace (Accepted n) = 0
+verdictPlace v = elim v [ Refused c ↦ placeOf c | Illegal n ↦ 0 | Accepted n ↦ 0 ]
 
 abbrev pub verdictLength : Verdict → ℕ
-verdictLength (Refused c) = 0
-verdictLength (Illegal n) = n
-verdictLength (Accepted n) = n
+verdictLength v = elim v [ Refused c ↦ 0 | Illegal n ↦ n | Accepted n ↦ n ]

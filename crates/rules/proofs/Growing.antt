@@ -10,7 +10,8 @@ use lib.Dec.{eqb, ltb, leb}
 use lib.ListN.{length, getD, set}
 use lib.Seq.{getD-set-same, getD-set-other, set-out}
 use Rattle.trace.specs.File.{rowLimit, rowsOf, compromisedIn}
-use Rattle.trace.specs.Rows.{choose, rowAt}
+use Rattle.trace.specs.Rows.{choose}
+use Rattle.trace.specs.Kinds.{rowAt}
 use Rattle.trace.specs.declared.Row.{Row}
 use Rattle.trace.specs.declared.Row.the-variants.{Agent, Number, Nonce, Prf, PublicKey, PrivateKey, SessionKey, Hash, Crypt, Pair}
 use Rattle.trace.specs.declared.Event.{Event}

@@ -13,7 +13,8 @@ use lib.ListN.{length, getD, length-replicate, getD-replicate, List·getD-eq-def
 use lib.Seq.{getD-set-same, getD-set-other}
 use borrow.Author.Tests.{ltb-true, lt-ltb, le-ltb}
 use Rattle.trace.specs.File.{rowLimit}
-use Rattle.trace.specs.Rows.{choose, rowAt}
+use Rattle.trace.specs.Rows.{choose}
+use Rattle.trace.specs.Kinds.{rowAt}
 use Rattle.trace.specs.declared.Row.{Row}
 use Rattle.trace.specs.declared.Row.the-variants.{Agent, Number, Nonce, Prf, PublicKey, PrivateKey, SessionKey, Hash, Crypt, Pair}
 use Rattle.trace.proofs.Both.{both}

@@ -7,7 +7,7 @@ use trace::limits::ROW_LIMIT;
 use trace::limits::ROWS;
 ghost use mathlib.Core.Path.{_≡_};
 ghost use Prim.Native.Nat.{suc};
-ghost use Rattle.trace.specs.Rows.{rowAt};
+ghost use Rattle.trace.specs.Kinds.{rowAt};
 ghost use Rattle.rules.specs.Making.{told, leafOf, twoOf, partsOf, madeBelow, makeRow};
 
 // What a row is made from: a leaf of nothing, where `can` is the answer, any other of two lower rows.

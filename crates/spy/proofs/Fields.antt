@@ -6,7 +6,7 @@ use mathlib.Core.List.{List}
 use mathlib.Core.Path.{_≡_, refl}
 use native.Mathlib.Omega.{arith}
 use lib.Dec.{ltb}
-use Rattle.trace.specs.Rows.{rowOf}
+use Rattle.trace.specs.Kinds.{rowOf}
 use Rattle.trace.specs.declared.rows.Fields.{Fields}
 use Rattle.closure.specs.Closure.{rowMarked}
 use Rattle.closure.proofs.Fields.{below-pair, pair-kind}

@@ -13,7 +13,7 @@ use Rattle.paper.specs.Message as paper
 use Rattle.paper.specs.Spy as spy
 use Rattle.paper.specs.Spy.{Analz, Synth, known, guessAgent, guessNumber}
 use Rattle.trace.specs.File.{rowsOf}
-use Rattle.trace.specs.Rows.{rowAt}
+use Rattle.trace.specs.Kinds.{rowAt}
 use Rattle.trace.specs.Meaning.{message}
 use Rattle.trace.specs.Promises.{Promised, Keeps, hash, crypt, pair, Unfolds, asAgent, asNumber, asNonce, asPrf, asPublic, asPrivate, asSession, asHash, asCrypt, asPair}
 use Rattle.trace.specs.declared.Row.{Row}

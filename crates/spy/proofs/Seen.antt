@@ -28,6 +28,7 @@ use Rattle.trace.specs.declared.Event.{Event}
 use Rattle.trace.specs.declared.Event.the-variants.{Says, Notes}
 use Rattle.trace.specs.declared.Reading.the-variants.{Readable}
 use Rattle.trace.proofs.First.{bool-cases, lt-suc}
+use Rattle.trace.proofs.Meaning.{message-row, messages-suc}
 use Rattle.trace.proofs.Promised.{promises}
 use Rattle.spy.specs.Knowledge.{Mark, analysed, made, neither, Marks, Knows, written, seenIn}
 use Rattle.spy.specs.Promises.{OnlyGrows, struckOut, eventsLeft, SameRows, SeenDecides}
@@ -129,14 +130,18 @@ module _ (file : List ℕ) (P : Promised file) where
 
 -- equal rows have equal messages
 module _ (file other : List ℕ) (s : SameRows file other) where
+  message-among : (r : ℕ) → r < rowsOf file → messages file r ≡ messages other r → message file r ≡ message other r
+  message-among r l e = message-row file r ∙ rw (e, s .each r l) (sym (message-row other r))
+
   messages-same : (n : ℕ) → n ≤ rowsOf file → messages file n ≡ messages other n
   unfolding messages
   messages-same zero l = refl
-  messages-same (suc n) l = rw (messages-same n (omega arith), s .each n (omega arith))
+  messages-same (suc n) l =
+      let e = messages-same n (omega arith) in
+      messages-suc file n ∙ rw (e, message-among n (omega arith) e) (sym (messages-suc other n))
 
   message-same : (r : ℕ) → r < rowsOf file → message file r ≡ message other r
-  unfolding message
-  message-same r l = rw (messages-same r (omega arith), s .each r l)
+  message-same r l = message-among r l (messages-same r (omega arith))
 
   shown-same : {X : msg} {es : List Event} → Shown file X es → Shown other X es
   shown-same (by-says {r = r} l q) = by-says (rw (s .count) at l) (sym (message-same (r .0) l) ∙ q)

@@ -41,9 +41,7 @@ pub data Knows (file : List ℕ) (n : ℕ) (before : List ℕ) : Answer → List
 
 -- document 01's number and place of an answer; 0 where nothing is refused
 abbrev pub answerNumber : Answer → ℕ
-answerNumber (Refused c) = numberOf c
-answerNumber Written = 0
+answerNumber a = elim a [ Refused c ↦ numberOf c | Written ↦ 0 ]
 
 abbrev pub answerPlace : Answer → ℕ
-answerPlace (Refused c) = placeOf c
-answerPlace Written = 0
+answerPlace a = elim a [ Refused c ↦ placeOf c | Written ↦ 0 ]

@@ -6,9 +6,10 @@ use mathlib.Core.Logic.{_↔_}
 use mathlib.Core.Path.{_≡_}
 use lib.ListN.{length, getD}
 use Rattle.trace.specs.File.{rowsOf, eventsOf, compromisedIn}
-use Rattle.trace.specs.Rows.{choose, rowAt}
+use Rattle.trace.specs.Rows.{choose}
 use Rattle.trace.specs.Events.{eventAt}
 use Rattle.trace.specs.Refusal.{numberOf, placeOf, Told}
+use Rattle.trace.specs.Kinds.{rowAt}
 use Rattle.trace.specs.declared.Cause.{Cause}
 use Rattle.trace.specs.declared.Reading.the-variants.{Refused, Readable}
 use Rattle.trace.specs.declared.Event.{Event}

@@ -5,7 +5,7 @@ use trace::limits::ROW_LIMIT;
 use trace::rows::fields_at;
 ghost use mathlib.Core.Path.{_≡_};
 ghost use lib.ListN.{set};
-ghost use Rattle.trace.specs.Rows.{rowAt};
+ghost use Rattle.trace.specs.Kinds.{rowAt};
 ghost use Rattle.spy.specs.Made.{made, makes, markOf, writeMarks};
 
 const ANALYSED: u8 = 2;

@@ -6,7 +6,7 @@ use mathlib.Core.List.{List}
 use mathlib.Core.Path.{_≡_}
 use native.Mathlib.Omega.{arith}
 use borrow.Author.Tests.{ne-eqb, le-leb, lt-leb}
-use Rattle.trace.specs.Rows.{roleOf, rowOf}
+use Rattle.trace.specs.Kinds.{roleOf, rowOf}
 use Rattle.trace.specs.Tests.{agentLine, valueLine, nonceLine, keyLine, hashLine, cryptLine, pairLine, lineOf}
 use Rattle.trace.specs.declared.rows.Fields.{Fields}
 use Rattle.trace.specs.declared.Row.the-variants.{Agent, Number, Nonce, Prf, PublicKey, PrivateKey, SessionKey, Hash, Crypt, Pair}

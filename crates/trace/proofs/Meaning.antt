@@ -1,24 +1,30 @@
 -- Messages of rows that keep their lines: each unfolds by its kind, and equal ones have equal row numbers.
 -- Assumes nothing.
 use Prim.Native.Nat.{ℕ, zero, suc, _<_}
-use mathlib.Core.Bool.{true≢false}
+use mathlib.Core.Bool.{true, false, true≢false}
 use mathlib.Core.List.{List, [], _∷_, _++_}
 use mathlib.Core.Logic.{_⊎_, inl, inr}
-use mathlib.Core.Path.{_≡_, refl, sym, _∙_, ap}
+use mathlib.Core.Path.{_≡_, refl, sym, _∙_, ap, subst⁻¹}
 use native.Mathlib.Omega.{arith}
+use lib.Dec.{eqb}
+use borrow.Author.Tests.{ne-eqb}
 use lib.ListN.{length, length-append, List·getD-append}
 use lib.Seq.{getD-at}
 use Rattle.paper.specs.Message as paper
-use Rattle.trace.specs.Rows.{rowAt}
-use Rattle.trace.specs.Meaning.{roleMeant, asNonce, asKey, meant, among, messages, message}
-use Rattle.trace.specs.Promises.{NonceRow, plain, prf, KeyRow, public, private, session, NonceBelow, KeyBelow, Keeps, agent, number, nonce, publicKey, privateKey, sessionKey, hash, crypt, pair, Unfolds, asAgent, asNumber, asPrf, asPublic, asPrivate, asSession, asHash, asCrypt, asPair}
+use Rattle.trace.specs.Rows.{fieldsAt}
+use Rattle.trace.specs.Kinds.{roleOf, rowOf, rowAt}
+use Rattle.trace.specs.Meaning.{asNonce, asKey, roleSaid, meant, among, messages, message}
+use Rattle.trace.specs.Promises.{NonceRow, plain, prf, KeyRow, public, private, session, NonceBelow, KeyBelow, Keeps, agent, number, nonce, publicKey, privateKey, sessionKey, hash, crypt, pair, roleMeant, Unfolds, asAgent, asNumber, asPrf, asPublic, asPrivate, asSession, asHash, asCrypt, asPair}
 use Rattle.trace.specs.Promises as P
+use Rattle.trace.specs.declared.rows.Fields.{Fields}
 use Rattle.trace.specs.declared.RowNo.{RowNo}
 use Rattle.trace.specs.declared.Role.{Role}
 use Rattle.trace.specs.declared.Role.the-variants.{Client, Server}
 use Rattle.trace.specs.declared.Row.{Row}
 use Rattle.trace.specs.declared.Row.the-variants.{Agent, Number, Nonce, Prf, PublicKey, PrivateKey, SessionKey, Hash, Crypt, Pair}
-use Rattle.trace.proofs.First.{lt-suc}
+use Rattle.trace.proofs.First.{lt-suc, bool-cases}
+use Rattle.trace.proofs.Fits as kinds
+use Rattle.trace.proofs.Fits.{Kind, kindOf}
 
 role-same : (o p : Role) → roleMeant o ≡ roleMeant p → o ≡ p
 role-same Client Client e = refl
@@ -26,8 +32,59 @@ role-same Client Server e = absurd (true≢false (cc))
 role-same Server Client e = absurd (true≢false (cc))
 role-same Server Server e = refl
 
+-- a row's message by what the row is
+abbrev pub rowMeant : (ℕ → paper.msg) → Row → paper.msg
+rowMeant m (Agent a) = paper.Agent (a .0)
+rowMeant m (Number n) = paper.Number (n .0)
+rowMeant m (Nonce n) = paper.Nonce (paper.plain (n .0))
+rowMeant m (Prf s x y) = paper.Nonce (paper.PRF (asNonce (m (s .0))) (asNonce (m (x .0))) (asNonce (m (y .0))))
+rowMeant m (PublicKey a) = paper.Key (paper.pubK (a .0))
+rowMeant m (PrivateKey a) = paper.Key (paper.priK (a .0))
+rowMeant m (SessionKey r x y z) =
+    paper.Key (paper.sessionK (roleMeant r) (asNonce (m (x .0))) (asNonce (m (y .0))) (asNonce (m (z .0))))
+rowMeant m (Hash x) = paper.Hash (m (x .0))
+rowMeant m (Crypt k x) = paper.Crypt (asKey (m (k .0))) (m (x .0))
+rowMeant m (Pair x y) = paper.Pair (m (x .0)) (m (y .0))
+
+role-said : (n : ℕ) → roleSaid n ≡ roleMeant (roleOf n)
+role-said n = go (bool-cases (eqb n 0))
+  where
+    go : (eqb n 0 ≡ true) ⊎ (eqb n 0 ≡ false) → roleSaid n ≡ roleMeant (roleOf n)
+    go (inl e) = rw e refl
+    go (inr e) = rw e refl
+
+meant-row : (m : ℕ → paper.msg) (f : Fields) {k : ℕ} → f .kind ≡ k → Kind k → meant m f ≡ rowMeant m (rowOf f)
+unfolding meant rowOf
+meant-row m f e kinds.k0 = rw e refl
+meant-row m f e kinds.k1 = rw e refl
+meant-row m f e kinds.k2 = rw e refl
+meant-row m f e kinds.k3 = rw e refl
+meant-row m f e kinds.k4 = rw e refl
+meant-row m f e kinds.k5 = rw e refl
+meant-row m f e kinds.k6 = rw (e, role-said (f .role)) refl
+meant-row m f e kinds.k7 = rw e refl
+meant-row m f e kinds.k8 = rw e refl
+meant-row m f e kinds.k9 = rw e refl
+meant-row m f e (kinds.more l) =
+    simp (
+      ne-eqb (f .kind) 0 (omega arith),
+      ne-eqb (f .kind) 1 (omega arith),
+      ne-eqb (f .kind) 2 (omega arith),
+      ne-eqb (f .kind) 3 (omega arith),
+      ne-eqb (f .kind) 4 (omega arith),
+      ne-eqb (f .kind) 5 (omega arith),
+      ne-eqb (f .kind) 6 (omega arith),
+      ne-eqb (f .kind) 7 (omega arith),
+      ne-eqb (f .kind) 8 (omega arith),
+    )
+
 module _ (file : List ℕ) where
-  messages-suc : (n : ℕ) → messages file (suc n) ≡ messages file n ++ (message file n ∷ [])
+  -- the message of a row, by what the row is
+  pub message-row : (r : ℕ) → message file r ≡ rowMeant (among (messages file r)) (rowAt file r)
+  unfolding message
+  message-row r = meant-row (among (messages file r)) (fieldsAt file r) refl (kindOf _)
+
+  pub messages-suc : (n : ℕ) → messages file (suc n) ≡ messages file n ++ (message file n ∷ [])
   unfolding messages message
   messages-suc n = refl
 
@@ -46,28 +103,26 @@ module _ (file : List ℕ) where
       go (inl h) ih = List·getD-append (messages file n) _ _ x (omega (arith, messages-length n)) ∙ ih h
       go (inr e) ih = rw e (getD-at (messages file n) (message file n) [] _ n (messages-length n))
 
-  nonce-meant : (m : ℕ → paper.msg) (R : Row) → NonceRow R → meant m R ≡ paper.Nonce (asNonce (meant m R))
+  nonce-meant : (m : ℕ → paper.msg) (R : Row) → NonceRow R → rowMeant m R ≡ paper.Nonce (asNonce (rowMeant m R))
   nonce-meant m R plain = refl
   nonce-meant m R prf = refl
 
-  key-meant : (m : ℕ → paper.msg) (R : Row) → KeyRow R → meant m R ≡ paper.Key (asKey (meant m R))
+  key-meant : (m : ℕ → paper.msg) (R : Row) → KeyRow R → rowMeant m R ≡ paper.Key (asKey (rowMeant m R))
   key-meant m R public = refl
   key-meant m R private = refl
   key-meant m R session = refl
 
   nonce-message : {r : ℕ} {x : RowNo} → NonceBelow file r x → message file (x .0) ≡ paper.Nonce (asNonce (message file (x .0)))
-  unfolding message
-  nonce-message {x = x} b = nonce-meant _ (rowAt file (x .0)) (b .kind)
+  nonce-message {x = x} b = rw (message-row (x .0)) (nonce-meant _ (rowAt file (x .0)) (b .kind))
 
   key-message : {r : ℕ} {x : RowNo} → KeyBelow file r x → message file (x .0) ≡ paper.Key (asKey (message file (x .0)))
-  unfolding message
-  key-message {x = x} b = key-meant _ (rowAt file (x .0)) (b .kind)
+  key-message {x = x} b = rw (message-row (x .0)) (key-meant _ (rowAt file (x .0)) (b .kind))
 
   module _ (r : ℕ) (ms : ℕ → paper.msg) (same : (x : ℕ) → x < r → ms x ≡ message file x) where
     ref : {x : RowNo} → NonceBelow file r x → message file (x .0) ≡ paper.Nonce (asNonce (ms (x .0)))
     ref {x} b = nonce-message b ∙ ap (λ (X : paper.msg). paper.Nonce (asNonce X)) (sym (same (x .0) (b .below)))
 
-    unfolded : (R : Row) → Keeps file r R → Unfolds (message file) R (meant ms R)
+    unfolded : (R : Row) → Keeps file r R → Unfolds (message file) R (rowMeant ms R)
     unfolded R (agent l) = asAgent refl
     unfolded R number = asNumber refl
     unfolded R nonce = P.asNonce refl
@@ -81,8 +136,7 @@ module _ (file : List ℕ) where
 
   -- a row that keeps its line unfolds
   pub row-unfolds : (r : ℕ) → Keeps file r (rowAt file r) → Unfolds (message file) (rowAt file r) (message file r)
-  unfolding message
-  row-unfolds r k = unfolded r (among (messages file r)) (among-below r) (rowAt file r) k
+  row-unfolds r k = subst⁻¹ (Unfolds (message file) (rowAt file r)) (message-row r) (unfolded r (among (messages file r)) (among-below r) (rowAt file r) k)
 
   -- two rows with one message are one row, where that holds of the rows that they name
   module _ (r s : ℕ) (named : (x y : RowNo) → x .0 < r → y .0 < s → message file (x .0) ≡ message file (y .0) → x ≡ y) where

@@ -8,11 +8,12 @@ use mathlib.Core.Path.{_≡_, sym, _∙_, ap}
 use native.Mathlib.Omega.{arith}
 use borrow.Author.Tests.{not-false}
 use Rattle.trace.specs.File.{rowsOf, eventsOf, compromisedIn}
-use Rattle.trace.specs.Rows.{fieldsAt, KeepsLine, rowAt}
-use Rattle.trace.specs.Events as table
+use Rattle.trace.specs.Rows.{fieldsAt, KeepsLine}
 use Rattle.trace.specs.Events.{EventLine, KeepsEventLine, eventOf, eventAt}
 use Rattle.trace.specs.Refusal.{Wrong, spy, authority, row, repeated, event, Told, readable}
+use Rattle.trace.specs.Kinds.{rowAt}
 use Rattle.trace.specs.Reading.{reading}
+use Rattle.trace.specs.Events as table
 use Rattle.trace.specs.Promises.{Exists, says, notes, Promised, Promises, KeptApart}
 use Rattle.trace.specs.declared.Cause.{Cause}
 use Rattle.trace.specs.declared.Reading.the-variants.{Readable}

@@ -11,7 +11,9 @@ use lib.Dec.{eqb, ltb}
 use lib.ListN.{length}
 use borrow.Author.Tests.{eqb-true, eqb-false, ltb-true, ltb-false, not-true, not-false}
 use Rattle.trace.specs.File.{word, rowLimit, eventLimit, rowsAt, rowsOf, eventsOf, eventsAt, compromisedIn}
-use Rattle.trace.specs.Refusal.{numberOf, placeOf, Lowest, Broken, Repeated, Malformed, Wrong, short, version, reserved, spy, authority, rows, events, rows-offset, events-offset, size, row, repeated, event, Told, refused, readable}
+use Rattle.trace.specs.Rows.{KeepsLine}
+use Rattle.trace.specs.Events.{KeepsEventLine}
+use Rattle.trace.specs.Refusal.{numberOf, placeOf, Lowest, Repeated, Wrong, short, version, reserved, spy, authority, rows, events, rows-offset, events-offset, size, row, repeated, event, Told, refused, readable}
 use Rattle.trace.specs.First.{first}
 use Rattle.trace.specs.Tests.{headerOf, wrongVersion, wrongSet, wrongContents, badRow, repeatedRow, badEvent}
 use Rattle.trace.specs.Reading.{readItems, reading}
@@ -25,6 +27,12 @@ use Rattle.trace.proofs.Both.{either, or-false, or-false-right}
 use Rattle.trace.proofs.Causes.{causeOf, cause-numbered, one-cause, number-range}
 use Rattle.trace.proofs.Tested.{tested}
 use Rattle.trace.proofs.Refusal.{reading-short, reading-version, reading-set, reading-contents, reading-items, items-row, items-repeat, items-event, items-readable}
+
+abbrev pub Broken : List ℕ → ℕ → Type 0
+Broken file r = ¬ KeepsLine file r
+
+abbrev pub Malformed : List ℕ → ℕ → Type 0
+Malformed file e = ¬ KeepsEventLine file e
 
 -- a test that says whether a property holds of each number
 pub record Decides (p : ℕ → Bool) (P : ℕ → Type 0) : Type 0 where

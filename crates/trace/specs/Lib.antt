@@ -4,6 +4,7 @@ pub mod Events
 pub mod Meaning
 pub mod Refusal
 pub mod Part
+pub mod Kinds
 pub mod First
 pub mod Tests
 pub mod Reading

@@ -7,17 +7,19 @@ use mathlib.Core.Logic.{_↔_}
 use mathlib.Core.Path.{_≡_}
 use Rattle.paper.specs.Message as paper
 use Rattle.trace.specs.File.{rowLimit, eventLimit, agentLimit, rowsOf, eventsOf}
-use Rattle.trace.specs.Rows.{fieldsAt, rowAt, KeepsLine, SameBytes}
+use Rattle.trace.specs.Rows.{fieldsAt, KeepsLine, SameBytes}
 use Rattle.trace.specs.Events.{eventAt, KeepsEventLine, partsAt}
-use Rattle.trace.specs.Tests.{rowFits, eventFits, sameFields}
 use Rattle.trace.specs.Refusal.{Told}
+use Rattle.trace.specs.Kinds.{rowAt}
+use Rattle.trace.specs.Tests.{rowFits, eventFits, sameFields}
 use Rattle.trace.specs.Reading.{reading}
-use Rattle.trace.specs.Meaning.{roleMeant, message, bad}
+use Rattle.trace.specs.Meaning.{message, bad}
 use Rattle.trace.specs.declared.AgentNo.{AgentNo}
 use Rattle.trace.specs.declared.RowNo.{RowNo}
 use Rattle.trace.specs.declared.NumberValue.{NumberValue}
 use Rattle.trace.specs.declared.NonceValue.{NonceValue}
 use Rattle.trace.specs.declared.Role.{Role}
+use Rattle.trace.specs.declared.Role.the-variants.{Client, Server}
 use Rattle.trace.specs.declared.Row.{Row}
 use Rattle.trace.specs.declared.Row.the-variants.{Agent, Number, Nonce, Prf, PublicKey, PrivateKey, SessionKey, Hash, Crypt, Pair}
 use Rattle.trace.specs.declared.Event.{Event}
@@ -68,6 +70,10 @@ pub data Keeps (file : List ℕ) (r : ℕ) : Row → Type 0 where
   hash : {x : RowNo} → x .0 < r → Keeps file r (Hash x)
   crypt : {k x : RowNo} → KeyBelow file r k → x .0 < r → Keeps file r (Crypt k x)
   pair : {x y : RowNo} → x .0 < r → y .0 < r → Keeps file r (Pair x y)
+
+abbrev pub roleMeant : Role → paper.role
+roleMeant Client = paper.ClientRole
+roleMeant Server = paper.ServerRole
 
 -- how a row's message unfolds by its kind, where m gives the messages of the rows that it names
 pub data Unfolds (m : ℕ → paper.msg) : Row → paper.msg → Type 0 where

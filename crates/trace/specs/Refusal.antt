@@ -14,27 +14,22 @@ use Rattle.trace.specs.declared.Reading.{Reading}
 use Rattle.trace.specs.declared.Reading.the-variants.{Refused, Readable}
 
 -- the number and the place of each cause
+abbrev pub refusalOf : Cause → ℕ × ℕ
+refusalOf TooShort = (1, 0)
+refusalOf WrongVersion = (2, 0)
+refusalOf WrongSet = (3, 0)
+refusalOf WrongContents = (4, 0)
+refusalOf (BadRow r) = (5, r .0)
+refusalOf (RepeatedRow r) = (6, r .0)
+refusalOf (BadEvent e) = (7, e .0)
+refusalOf ShortBuffer = (8, 0)
+refusalOf TooManyEvents = (9, 0)
+
 abbrev pub numberOf : Cause → ℕ
-numberOf TooShort = 1
-numberOf WrongVersion = 2
-numberOf WrongSet = 3
-numberOf WrongContents = 4
-numberOf (BadRow r) = 5
-numberOf (RepeatedRow r) = 6
-numberOf (BadEvent e) = 7
-numberOf ShortBuffer = 8
-numberOf TooManyEvents = 9
+numberOf c = refusalOf c .0
 
 abbrev pub placeOf : Cause → ℕ
-placeOf TooShort = 0
-placeOf WrongVersion = 0
-placeOf WrongSet = 0
-placeOf WrongContents = 0
-placeOf (BadRow r) = r .0
-placeOf (RepeatedRow r) = r .0
-placeOf (BadEvent e) = e .0
-placeOf ShortBuffer = 0
-placeOf TooManyEvents = 0
+placeOf c = refusalOf c .1
 
 -- of the numbers below n, k is the lowest of which P holds
 pub record Lowest (P : ℕ → Type 0) (n k : ℕ) : Type 0 where
@@ -42,30 +37,31 @@ pub record Lowest (P : ℕ → Type 0) (n k : ℕ) : Type 0 where
   pub holds : P k
   pub lowest : (j : ℕ) → j < k → ¬ P j
 
-abbrev pub Broken : List ℕ → ℕ → Type 0
-Broken file r = ¬ KeepsLine file r
-
 abbrev pub Repeated : List ℕ → ℕ → Type 0
 Repeated file r = (s : ℕ) × (s < r) × SameBytes file s r
 
-abbrev pub Malformed : List ℕ → ℕ → Type 0
-Malformed file e = ¬ KeepsEventLine file e
-
 -- a cause is given exactly when ..
 pub data Wrong (file : List ℕ) : Cause → Type 0 where
+  -- 1: fewer than 20 bytes
   short : length file < rowsAt → Wrong file TooShort
+  -- 2: version not 1, or bytes 2-3 not zero
   version : ¬ (word file 0 ≡ 1) → Wrong file WrongVersion
   reserved : ¬ (word file 2 ≡ 0) → Wrong file WrongVersion
+  -- 3: Spy not compromised, or authority compromised
   spy : ¬ bad file Spy → Wrong file WrongSet
   authority : bad file Authority → Wrong file WrongSet
+  -- 4: a count over its limit, a wrong offset, or a length that does not fit
   rows : rowLimit < rowsOf file → Wrong file WrongContents
   events : eventLimit < eventsOf file → Wrong file WrongContents
   rows-offset : ¬ (word file 12 ≡ rowsAt) → Wrong file WrongContents
   events-offset : ¬ (word file 16 ≡ eventsAt file) → Wrong file WrongContents
   size : ¬ (length file ≡ eventsAt file + 8 * eventsOf file) → Wrong file WrongContents
-  row : {r : ℕ} → Lowest (Broken file) (rowsOf file) r → Wrong file (BadRow (record { 0 = r }))
+  -- 5: a row breaks its kind's line
+  row : {r : ℕ} → Lowest (λ s. ¬ KeepsLine file s) (rowsOf file) r → Wrong file (BadRow (record { 0 = r }))
+  -- 6: a row equals an earlier one
   repeated : {r : ℕ} → Lowest (Repeated file) (rowsOf file) r → Wrong file (RepeatedRow (record { 0 = r }))
-  event : {e : ℕ} → Lowest (Malformed file) (eventsOf file) e → Wrong file (BadEvent (record { 0 = e }))
+  -- 7: an event breaks its line
+  event : {e : ℕ} → Lowest (λ d. ¬ KeepsEventLine file d) (eventsOf file) e → Wrong file (BadEvent (record { 0 = e }))
 
 -- .. and the lowest number applies
 pub data Told (file : List ℕ) : Reading → Type 0 where

@@ -9,7 +9,8 @@ use super::bytes;
 use super::limits::ITEM;
 use super::limits::ROWS_AT;
 ghost use mathlib.Core.Path.{_≡_};
-ghost use Rattle.trace.specs.Rows.{fieldsAt, kindAt, roleOf, rowOf};
+ghost use Rattle.trace.specs.Rows.{fieldsAt, kindAt};
+ghost use Rattle.trace.specs.Kinds.{roleOf, rowOf};
 
 pub struct Fields {
     pub kind: u16,

@@ -10,7 +10,7 @@ use lib.Dec.{ltb, leb}
 use borrow.Author.Tests.{ltb-true, lt-ltb, le-ltb, le-leb, lt-leb}
 use lib.ListN.{set}
 use Rattle.trace.specs.File.{rowLimit}
-use Rattle.trace.specs.Rows.{rowAt}
+use Rattle.trace.specs.Kinds.{rowAt}
 use Rattle.trace.proofs.Both.{or-true}
 use Rattle.trace.proofs.First.{lt-suc}
 use Rattle.closure.specs.Closure.{rowMarked}

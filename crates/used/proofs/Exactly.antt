@@ -11,8 +11,8 @@ use Rattle.paper.specs.Event as event
 use Rattle.paper.specs.Event.{trace, In, here, there}
 use Rattle.paper.specs.Used.{Part, self, left, right, body, Used, inSays, inNotes}
 use Rattle.trace.specs.File.{rowLimit, rowsOf, eventsOf}
-use Rattle.trace.specs.Rows.{rowAt}
 use Rattle.trace.specs.Events.{eventAt}
+use Rattle.trace.specs.Kinds.{rowAt}
 use Rattle.trace.specs.Meaning.{message, eventMeant, beginning}
 use Rattle.trace.specs.Promises.{Promised, Keeps, crypt, pair, Unfolds, asAgent, asNumber, asNonce, asPrf, asPublic, asPrivate, asSession, asHash, asCrypt, asPair, Exists, says, notes}
 use Rattle.trace.specs.declared.Row.{Row}

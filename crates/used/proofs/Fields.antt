@@ -2,7 +2,7 @@
 -- Assumes nothing.
 use Prim.Native.Nat.{ℕ, _<_, _≤_}
 use mathlib.Core.Path.{_≡_, refl}
-use Rattle.trace.specs.Rows.{rowOf}
+use Rattle.trace.specs.Kinds.{rowOf}
 use Rattle.trace.specs.declared.rows.Fields.{Fields}
 use Rattle.closure.proofs.Fields.{below-pair, pair-kind}
 use Rattle.used.specs.Marking.{noHalves, partsOf}

@@ -12,7 +12,7 @@ use lib.Dec.{ltb}
 use lib.ListN.{length, set, length-set}
 use borrow.Author.Tests.{ltb-true, lt-ltb, lt-leb}
 use Rattle.trace.specs.File.{rowLimit}
-use Rattle.trace.specs.Rows.{rowAt}
+use Rattle.trace.specs.Kinds.{rowAt}
 use Rattle.trace.specs.declared.Row.{Row}
 use Rattle.trace.proofs.First.{bool-cases}
 use Rattle.closure.specs.Closure.{rowMarked}

@@ -5,8 +5,8 @@ use mathlib.Core.List.{List}
 use lib.Dec.{ltb, leb}
 use lib.ListN.{set}
 use Rattle.trace.specs.File.{rowLimit}
-use Rattle.trace.specs.Rows.{rowAt}
 use Rattle.trace.specs.Events.{eventAt}
+use Rattle.trace.specs.Kinds.{rowAt}
 use Rattle.trace.specs.declared.Event.{Event}
 use Rattle.trace.specs.declared.Event.the-variants.{Says, Notes}
 use Rattle.trace.specs.declared.Row.{Row}

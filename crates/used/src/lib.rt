@@ -9,8 +9,8 @@ use trace::limits::ROWS;
 use trace::rows::fields_at;
 ghost use mathlib.Core.Path.{_≡_};
 ghost use Prim.Native.Nat.{suc};
-ghost use Rattle.trace.specs.Rows.{rowAt};
 ghost use Rattle.trace.specs.Events.{eventAt};
+ghost use Rattle.trace.specs.Kinds.{rowAt};
 ghost use Rattle.used.specs.Marking.{partsOf, usedBelow, useRow, useEvent};
 
 // The kinds that have parts; a kind above 9 reads as a Pair.

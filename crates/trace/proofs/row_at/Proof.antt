@@ -1,6 +1,6 @@
 -- `trace::row_at` meets its contract: it is `row_of` what stands there.
 -- Assumes nothing.
-use Rattle.trace.specs.Rows.{rowOf}
+use Rattle.trace.specs.Kinds.{rowOf}
 use mathlib.Core.Path.{_∙_, ap}
 use borrow.Author.Needs.{needs}
 use Rattle.trace.proofs.row_at.Statement.{statement}

@@ -1,7 +1,7 @@
 -- `trace::rows::row_of` meets its contract: in each arm the kind is known.
 -- Assumes nothing.
 use borrow.Author.Tests.{ne-eqb}
-use Rattle.trace.specs.Rows.{rowOf}
+use Rattle.trace.specs.Kinds.{rowOf}
 use borrow.Author.Needs.{needs}
 use Rattle.trace.proofs.rows.row_of.Statement.{statement}
 use Rattle.trace.proofs.rows.row_of.Tie as tie
