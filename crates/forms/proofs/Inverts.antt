@@ -8,9 +8,9 @@ use native.Mathlib.Omega.{arith}
 use Rattle.paper.specs.Message as paper
 use Rattle.trace.specs.File.{rowsOf, agentLimit}
 use Rattle.trace.specs.Kinds.{rowAt}
-use Rattle.trace.specs.Meaning.{message, roleMeant}
+use Rattle.trace.specs.Meaning.{message}
 use Rattle.trace.specs.Meaning as meaning
-use Rattle.trace.specs.Promises.{Promised, Keeps, agent, prf, publicKey, privateKey, sessionKey, hash, crypt, pair, Unfolds, asAgent, asNumber, asNonce, asPrf, asPublic, asPrivate, asSession, asHash, asCrypt, asPair}
+use Rattle.trace.specs.Promises.{roleMeant, Promised, Keeps, agent, prf, publicKey, privateKey, sessionKey, hash, crypt, pair, Unfolds, asAgent, asNumber, asNonce, asPrf, asPublic, asPrivate, asSession, asHash, asCrypt, asPair}
 use Rattle.trace.specs.declared.Role.{Role}
 use Rattle.trace.specs.declared.Role.the-variants.{Client, Server}
 use Rattle.trace.specs.declared.Row.{Row}
