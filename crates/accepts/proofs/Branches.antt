@@ -1,9 +1,9 @@
 -- What the branches of the tests need: a row that is no Crypt under a session key of its side is no Finished, and the order of tests does not matter.
 -- Assumes nothing.
 use Prim.Native.Nat.{ℕ}
-use mathlib.Core.Bool.{Bool, true, false, not, _&&_, _||_, true≢false}
+use mathlib.Core.Bool.{Bool, true, false, not, _&&_, _||_}
 use mathlib.Core.List.{List}
-use mathlib.Core.Path.{_≡_, refl, sym, _∙_}
+use mathlib.Core.Path.{_≡_, refl}
 use Rattle.trace.specs.Rows.{choose}
 use Rattle.trace.proofs.Both.{and-true, and-false}
 use Rattle.forms.specs.Forms.{sealedOf, underKey}

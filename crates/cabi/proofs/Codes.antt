@@ -1,9 +1,9 @@
 -- The numbers tell the replies: a cause is told by its number and its place, and the three kinds of verdict lie apart.
 -- Assumes nothing.
-use Prim.Native.Nat.{ℕ, _<_, _≤_}
-use mathlib.Core.Path.{_≡_, refl, sym, _∙_, ap}
+use Prim.Native.Nat.{ℕ, _<_}
+use mathlib.Core.Path.{_≡_, refl, _∙_, ap}
 use native.Mathlib.Omega.{arith}
-use Rattle.trace.specs.Refusal.{numberOf, placeOf}
+use Rattle.trace.specs.Refusal.{placeOf}
 use Rattle.trace.specs.declared.Span.{Span}
 use Rattle.trace.specs.declared.Cause.{Cause}
 use Rattle.trace.proofs.Causes.{one-cause}

@@ -1,6 +1,6 @@
 -- One number only, and one content of the lent bytes: the questions below have one answer. And a number tells its reply.
 -- Assumes nothing.
-use mathlib.Core.Path.{_≡_, sym, _∙_, ap}
+use mathlib.Core.Path.{sym, _∙_, ap}
 use Rattle.spy.proofs.Knows.{one-answer}
 use Rattle.judge.proofs.One.{one-verdict}
 use Rattle.judge.proofs.Faults.{one-fault}

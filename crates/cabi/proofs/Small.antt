@@ -5,7 +5,6 @@ use mathlib.Core.List.{List}
 use native.Mathlib.Omega.{arith}
 use Rattle.trace.specs.File.{eventLimit, eventsOf}
 use Rattle.trace.specs.Refusal.{placeOf, Told}
-use Rattle.trace.specs.declared.Span.{Span}
 use Rattle.trace.specs.declared.Cause.{Cause}
 use Rattle.trace.specs.declared.Reading as reading
 use Rattle.trace.proofs.Told.{told-place}
@@ -14,7 +13,6 @@ use Rattle.spy.specs.declared.Answer.{Answer}
 use Rattle.spy.specs.Knowledge as spy
 use Rattle.judge.specs.declared.reply.Verdict.{Verdict}
 use Rattle.judge.specs.Judged as judge
-use Rattle.judge.specs.Faulted.{Faulted}
 use Rattle.judge.proofs.Faults.{faulted-inside}
 use Rattle.cabi.specs.Codes.{half, SmallVerdict, SmallAnswer}
 use Rattle.cabi.specs.Coded.{RepliesSmall}

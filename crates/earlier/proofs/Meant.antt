@@ -1,10 +1,10 @@
 -- An event of the file, flat, against the paper's event; and what is in the trace of the first e events.
 -- Assumes nothing.
 use Prim.Native.Nat.{ℕ, suc, zero, _<_, _≤_}
-use mathlib.Core.Bool.{Bool, true, false, not, true≢false, _&&_}
+use mathlib.Core.Bool.{Bool, true, false, not, true≢false}
 use mathlib.Core.List.{List, _∷_}
 use mathlib.Core.Logic.{_⊎_, inl, inr}
-use mathlib.Core.Path.{_≡_, refl, sym, _∙_, ap}
+use mathlib.Core.Path.{_≡_, refl, sym, ap}
 use native.Mathlib.Omega.{arith}
 use lib.Dec.{eqb}
 use borrow.Author.Tests.{eqb-true, eq-eqb}

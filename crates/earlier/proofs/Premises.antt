@@ -1,14 +1,14 @@
 -- Each search over earlier events succeeds exactly when the paper's premise holds of the trace so far.
 -- Assumes nothing.
 use Prim.Native.Nat.{ℕ, _<_, _≤_}
-use mathlib.Core.Bool.{Bool, true, not, _&&_}
+use mathlib.Core.Bool.{true, _&&_}
 use mathlib.Core.List.{List}
 use mathlib.Core.Path.{_≡_, refl, sym, _∙_, ap}
 use lib.Dec.{eqb}
 use borrow.Author.Tests.{eqb-true, eq-eqb}
 use Rattle.paper.specs.Message as paper
 use Rattle.paper.specs.Event.{event, trace, In, Says, Notes}
-use Rattle.paper.specs.Rules.{Step, CH, SH, cert, secretNote, carried, sessionNote}
+use Rattle.paper.specs.Rules.{Step, CH, SH, cert, secretNote, sessionNote}
 use Rattle.trace.specs.File.{rowsOf, eventsOf}
 use Rattle.trace.specs.Events.{eventAt}
 use Rattle.trace.specs.Meaning.{message, beginning, asNonce, asKey}
@@ -23,7 +23,7 @@ use Rattle.forms.proofs.Shaped.{shapes}
 use Rattle.earlier.specs.declared.Wanted.{Wanted}
 use Rattle.earlier.specs.declared.Wanted.the-variants.{HelloFor, HelloBy, HelloTo, ReplyWith, ReplyTo, ReplyBy, Cert, Secret, Sent, Session, Under}
 use Rattle.earlier.specs.Earlier.{heardAt, saidTo, saidBy, notedBy, isHello, isReply, fitsIn, earlier}
-use Rattle.earlier.proofs.Meant.{to-sound, by-sound, noted-sound, Said, Noted, said-told, noted-told, row-in, says-meant, in-beginning}
+use Rattle.earlier.proofs.Meant.{to-sound, by-sound, noted-sound, said-told, noted-told, row-in, says-meant, in-beginning}
 
 asNumber : paper.msg → ℕ
 asNumber (paper.Agent A) = 0

@@ -1,18 +1,17 @@
 -- The rules of Finished: each test passes exactly when the paper's rule puts the event there.
 -- Assumes nothing.
 use Prim.Native.Nat.{ℕ, _<_}
-use mathlib.Core.Bool.{Bool, true, false, not, _&&_, true≢false}
+use mathlib.Core.Bool.{Bool, true, not, _&&_}
 use mathlib.Core.List.{List}
 use mathlib.Core.Path.{_≡_, refl, sym, _∙_, ap}
 use lib.Dec.{eqb}
 use borrow.Author.Tests.{eqb-true, eq-eqb}
 use Rattle.paper.specs.Message as paper
 use Rattle.paper.specs.Event as event
-use Rattle.paper.specs.Event.{In}
 use Rattle.paper.specs.Rules.{Finished, Step, ClientFinished, ServerFinished, ClientResume, ServerResume}
-use Rattle.trace.specs.File.{rowsOf, eventsOf}
+use Rattle.trace.specs.File.{eventsOf}
 use Rattle.trace.specs.Events.{eventAt}
-use Rattle.trace.specs.Meaning.{message, eventMeant, beginning, bad}
+use Rattle.trace.specs.Meaning.{eventMeant, beginning, bad}
 use Rattle.trace.specs.Promises.{Promised}
 use Rattle.trace.proofs.Both.{both}
 use Rattle.forms.specs.Kinds.{prfOf}
@@ -21,7 +20,7 @@ use Rattle.forms.specs.Shapes.{roleNamed}
 use Rattle.forms.proofs.Flags.{both5, both6, both7}
 use Rattle.forms.proofs.Shaped.{shapes}
 use Rattle.earlier.specs.declared.Wanted.the-variants.{HelloBy, HelloTo, ReplyTo, ReplyBy, Secret, Sent, Session}
-use Rattle.earlier.specs.Earlier.{heardAt, saidBy, earlier, past}
+use Rattle.earlier.specs.Earlier.{heardAt, earlier, past}
 use Rattle.finished.specs.Tests.{clientFinished, serverFinished, clientResume, serverResume}
 use Rattle.earlier.proofs.Meant.{says-meant, says-told, not-later, here-row, not-true}
 use Rattle.earlier.proofs.Premises.{event-same, says-same, nonce-one, one-message, one-row, hello-by-sound, hello-by-complete, hello-to-sound, hello-to-complete, reply-to-sound, reply-to-complete, reply-by-sound, reply-by-complete, secret-sound, secret-complete, sent-sound, sent-complete, session-sound, session-complete}

@@ -1,6 +1,5 @@
 -- The marked cases hold: each is computed from the definitions, and what is computed satisfies the relation.
 -- Assumes nothing.
-use Prim.Native.Nat.{ℕ}
 use mathlib.Core.List.{List}
 use mathlib.Core.Path.{_≡_, refl}
 use Rattle.trace.specs.File.{word, rowsOf, eventsOf}
@@ -24,9 +23,8 @@ use Rattle.finished.specs.Tests.{clientFinished, serverFinished, clientResume, 
 use Rattle.accepts.specs.Tests.{bothFinished, clientAccepts, serverAccepts}
 use Rattle.walk.specs.Walk.{walk, cleared}
 use Rattle.walk.specs.Lowest.{lowestNoted, lowestCrypt, lowestPlain, lowestSaid, lowestRule}
-use Rattle.judge.specs.declared.reply.Verdict.{Verdict}
 use Rattle.judge.specs.Reply.{verdictReadable, rulesReadable}
-use Rattle.judge.specs.Cases.{Case, verdict, knowledge, fileOf, buffer, Holds, P1, P2, P3, P4, P5, P6, P7, P7-set-9, P8, P9, P10, markedCases, All, none, also, MarkedCases}
+use Rattle.judge.specs.Cases.{Case, verdict, knowledge, buffer, Holds, P1, P2, P3, P4, P5, P6, P7, P7-set-9, P8, P9, P10, markedCases, All, none, also, MarkedCases}
 use Rattle.judge.proofs.Judges.{judged-readable}
 
 -- what is computed for a case

@@ -58,7 +58,7 @@ module _ (file : List ℕ) (r : reading file ≡ Readable) where
     ended = walk-ended file r bytes room
 
     faulted-event : n < eventsOf file → Faulted file (eventSpan file n)
-    faulted-event l = rw (event-eight file (right-contents file told) n l) (illegal told (record { accepted = ended .accepted; longest = ended .longest }) l)
+    faulted-event l = rw (event-eight file (right-contents file told) n l) (illegal told (record { within = ended .within; accepted = ended .accepted; longest = ended .longest }) l)
 
     faulted-none : eventsOf file ≤ n → Faulted file nothing
     faulted-none l =
@@ -104,21 +104,20 @@ byLength file n = choose (ltb n (eventsOf file)) (eventPart file n) nothing
 abbrev Fixed : List ℕ → Span → Type 0
 Fixed file s =
     ((c : Cause) × Told file (Refused c) × (s ≡ byCause file c)) ⊎
-    (Told file Readable × ((n : ℕ) × (n ≤ eventsOf file) × Longest file n × (s ≡ byLength file n)))
+    (Told file Readable × ((n : ℕ) × Longest file n × (s ≡ byLength file n)))
 
 fixed : (file : List ℕ) {s : Span} → Faulted file s → Fixed file s
 fixed file (row t) = inl (_, t, refl)
 fixed file (repeated t) = inl (_, t, refl)
 fixed file (event t) = inl (_, t, refl)
 fixed file (refused {c = c} t l) = inl (c, t, rw (lt-ltb (numberOf c) 5 l) refl)
-fixed file (illegal {n = n} t g l) = inr (t, (n, omega arith, g, rw (lt-ltb n (eventsOf file) l) refl))
+fixed file (illegal {n = n} t g l) = inr (t, (n, g, rw (lt-ltb n (eventsOf file) l) refl))
 fixed file (accepted t g) =
     inr (
       t,
       (
         eventsOf file,
-        omega arith,
-        record { accepted = g; longest = λ m l le. absurd (omega arith) },
+        record { within = omega arith; accepted = g; longest = λ m l le. absurd (omega arith) },
         rw (le-ltb (eventsOf file) (eventsOf file) (omega arith)) refl,
       ),
     )
@@ -127,7 +126,7 @@ fixed-one : (file : List ℕ) (s t : Span) → Fixed file s → Fixed file t →
 fixed-one file s t (inl (c, a, e)) (inl (d, b, f)) = e ∙ ap (byCause file) (same-cause file a b) ∙ sym f
 fixed-one file s t (inl (c, a, e)) (inr (b, m)) = absurd (told-readable file a b)
 fixed-one file s t (inr (a, n)) (inl (d, b, f)) = absurd (told-readable file b a)
-fixed-one file s t (inr (a, (n, l, g, e))) (inr (b, (m, k, h, f))) = e ∙ ap (byLength file) (longest-one file n m l k g h) ∙ sym f
+fixed-one file s t (inr (a, (n, g, e))) (inr (b, (m, h, f))) = e ∙ ap (byLength file) (longest-one file n m g h) ∙ sym f
 
 pub one-fault : OneFault
 one-fault file s t a b = fixed-one file s t (fixed file a) (fixed file b)

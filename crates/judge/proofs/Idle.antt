@@ -1,12 +1,13 @@
 -- The five idle judges are shut out: four by the cases that document 01 names, P1, P3, P8 and P5, and the one that invents a length, of which
 -- P6 is an instance, by the relation itself.
 -- Assumes nothing.
-use Prim.Native.Nat.{ℕ, _<_, _≤_}
+use Prim.Native.Nat.{ℕ, _<_}
 use native.Mathlib.Omega.{arith}
-use mathlib.Core.List.{List, _∷_}
+use mathlib.Core.List.{List}
 use mathlib.Core.Logic.{inl, inr}
 use mathlib.Core.Path.{_≡_, refl, sym, _∙_, ap}
 use lib.ListN.{getD}
+use Rattle.trace.specs.File.{eventsOf}
 use Rattle.trace.proofs.Causes.{number-range}
 use Rattle.spy.specs.declared.Answer.the-variants.{Written}
 use Rattle.spy.specs.Knowledge.{Knows, written, answerNumber}
@@ -14,7 +15,7 @@ use Rattle.spy.proofs.Knows.{one-answer}
 use Rattle.judge.specs.declared.reply.Verdict.{Verdict}
 use Rattle.judge.specs.declared.reply.Verdict.the-variants.{Refused, Illegal, Accepted}
 use Rattle.judge.specs.Judged.{Fits, RuleAt, lowest, note, message, Longest, Judged, illegal, verdictNumber}
-use Rattle.judge.specs.Cases.{Case, Holds, P1, P3, P5, P8, All, also, markedCases}
+use Rattle.judge.specs.Cases.{Holds, P1, P3, P5, P8, All, also, markedCases}
 use Rattle.judge.specs.Idle.{Asked, AskedAfter, Judge, Meets, Idle, refuses, accepts, silent, first, invents, IdleShutOut}
 use Rattle.judge.proofs.One.{one-verdict}
 use Rattle.judge.proofs.Views.{view}
@@ -48,6 +49,10 @@ fits-alone (message x) z l = absurd (omega arith)
 first-fits : {file before after : List ℕ} {n : ℕ} → Judged file before (Illegal n) after → 0 < n → getD after 0 0 < 6 →
     Fits file 0 (getD after 0 0)
 first-fits (illegal _ _ _ _ b) p l = fits-alone (b .rules 0 p) refl l
+
+-- an illegal file has an event at fault
+has-events : {file before after : List ℕ} {n : ℕ} → Judged file before (Illegal n) after → 0 < eventsOf file
+has-events (illegal _ _ _ l _) = omega arith
 
 longest : {file before after : List ℕ} {n : ℕ} → Judged file before (Illegal n) after → Longest file n
 longest (illegal _ _ g _ _) = g
@@ -86,7 +91,7 @@ module _ (J : Judge) (m : Meets J) where
       omega (arith, ap (λ bytes. getD bytes 0 0) (sym q ∙ s _ _ _ (asked-after k)))
   shut-out (first f) =
       let j = p5 marked-cases in
-      let q = f _ _ (asked j refl) 3 (first-fits j (omega arith) (omega arith)) in
+      let q = f _ _ (asked j refl) (has-events j) 3 (first-fits j (omega arith) (omega arith)) in
       omega (arith, ap size (sym (same _ _ j) ∙ q .1))
   shut-out (invents (file, before, n, a, q, other)) = other (longest (rw q at (m .judged file before)))
 

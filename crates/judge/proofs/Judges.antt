@@ -84,7 +84,7 @@ module _ (file before : List ℕ) (r : reading file ≡ declared.the-variants.Re
 
     walk-judged : Dec (w .length < N) → Judged file before (verdictAt N (w .length)) (w .bytes)
     walk-judged (yes l) =
-        rw (lt-ltb (w .length) N l) (illegal told room (record { accepted = ended .accepted; longest = ended .longest }) l rules)
+        rw (lt-ltb (w .length) N l) (illegal told room (record { within = ended .within; accepted = ended .accepted; longest = ended .longest }) l rules)
     walk-judged (no l) =
         rw (le-ltb (w .length) N (omega arith)) (accepted told room (ended .accepted) (omega (arith, ended .within)) rules)
 

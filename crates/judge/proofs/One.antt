@@ -45,10 +45,10 @@ module _ (file : List ℕ) where
       go i (no l) (yes m) = a .zeros i (omega arith) m ∙ sym (b .zeros i (omega arith) m)
       go i (no l) (no m) = a .rest i (omega arith) ∙ sym (b .rest i (omega arith))
 
-  pub longest-one : (n m : ℕ) → n ≤ eventsOf file → m ≤ eventsOf file → Longest file n → Longest file m → n ≡ m
-  longest-one n m ln lm a b =
-      let p : ¬ (n < m) = λ l. a .longest m l lm (b .accepted) in
-      let q : ¬ (m < n) = λ l. b .longest n l ln (a .accepted) in
+  pub longest-one : (n m : ℕ) → Longest file n → Longest file m → n ≡ m
+  longest-one n m a b =
+      let p : ¬ (n < m) = λ l. a .longest m l (b .within) (b .accepted) in
+      let q : ¬ (m < n) = λ l. b .longest n l (a .within) (a .accepted) in
       omega arith
 
 pub one-verdict : OneVerdict
@@ -63,7 +63,7 @@ one-verdict file before v w after after′ (short t s) (accepted u r g e b) = ab
 one-verdict file before v w after after′ (illegal t r l k b) (refused u) = absurd (told-readable file u t)
 one-verdict file before v w after after′ (illegal t r l k b) (short u s) = absurd (omega arith)
 one-verdict file before v w after after′ (illegal {n = n} t r l k b) (illegal {n = m} u s j i c) =
-    let e = longest-one file n m (omega arith) (omega arith) l j in
+    let e = longest-one file n m l j in
     (ap Illegal e, bytes-one file m before after after′ (rw e at b) c)
 one-verdict file before v w after after′ (illegal {n = n} t r l k b) (accepted {n = m} u s g e c) =
     absurd (l .longest m (omega arith) (omega arith) g)

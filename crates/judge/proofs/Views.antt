@@ -20,7 +20,6 @@ pub record View (file before : List ℕ) (v : Verdict) (after : List ℕ) : Type
   pub told : Told file Readable
   pub room : eventsOf file ≤ length before
   pub longest : Longest file (verdictLength v)
-  pub within : verdictLength v ≤ eventsOf file
   pub is : v ≡ verdictAt (eventsOf file) (verdictLength v)
   pub bytes : RuleBytes file (verdictLength v) before after
 
@@ -28,13 +27,12 @@ pub view : {file before : List ℕ} {v : Verdict} {after : List ℕ} → Judged 
 view (refused {c = c} t) e = absurd (omega (arith, number-range c .0))
 view (short t l) e = absurd (omega arith)
 view {file} (illegal {n = n} t room g l b) e =
-    record { told = t; room = room; longest = g; within = omega arith; is = rw (lt-ltb n (eventsOf file) l) refl; bytes = b }
+    record { told = t; room = room; longest = g; is = rw (lt-ltb n (eventsOf file) l) refl; bytes = b }
 view {file} (accepted {n = n} t room g q b) e =
     record {
       told = t;
       room = room;
-      longest = record { accepted = g; longest = λ m l le. absurd (omega arith) };
-      within = omega arith;
+      longest = record { within = omega arith; accepted = g; longest = λ m l le. absurd (omega arith) };
       is = rw (le-ltb n (eventsOf file) (omega arith)) refl;
       bytes = b;
     }
@@ -49,7 +47,7 @@ readable-view (accepted t room g e b) u l = view (accepted t room g e b) refl
 
 module _ {file before lent : List ℕ} {v w : Verdict} {after marks : List ℕ} (a : View file before v after) (b : View file lent w marks) where
   same-length : verdictLength v ≡ verdictLength w
-  same-length = longest-one file (verdictLength v) (verdictLength w) (a .within) (b .within) (a .longest) (b .longest)
+  same-length = longest-one file (verdictLength v) (verdictLength w) (a .longest) (b .longest)
 
   pub same-verdict : v ≡ w
   same-verdict = a .is ∙ ap (verdictAt (eventsOf file)) same-length ∙ sym (b .is)

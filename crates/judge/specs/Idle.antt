@@ -1,5 +1,5 @@
 -- The five idle judges of document 01, "Strength of the contracts": none of them meets the relations.
-use Prim.Native.Nat.{ℕ, _≤_}
+use Prim.Native.Nat.{ℕ, _<_, _≤_}
 use mathlib.Core.List.{List}
 use mathlib.Core.Logic.{_⊎_}
 use mathlib.Core.Path.{_≡_}
@@ -52,7 +52,8 @@ WritesNothing J =
 -- one that judges the first event and waves the rest through
 abbrev pub FirstOnly : Judge → Type 0
 FirstOnly J =
-    (file before : List ℕ) → Asked file before → (k : ℕ) → Fits file 0 k → (n : ℕ) × (J .verdict file before ≡ Accepted n)
+    (file before : List ℕ) → Asked file before → 0 < eventsOf file → (k : ℕ) → Fits file 0 k →
+    (n : ℕ) × (J .verdict file before ≡ Accepted n)
 
 -- one that invents the length of the accepted beginning
 abbrev pub InventsLength : Judge → Type 0

@@ -45,6 +45,7 @@ pub record RuleBytes (file : List ℕ) (n : ℕ) (before after : List ℕ) : Typ
 
 -- the longest accepted beginning
 pub record Longest (file : List ℕ) (n : ℕ) : Type 0 where
+  pub within : n ≤ eventsOf file
   pub accepted : AcceptedTo file n
   pub longest : (m : ℕ) → n < m → m ≤ eventsOf file → ¬ AcceptedTo file m
 

@@ -1,6 +1,6 @@
 -- The sample's text: its verdict is P2's, whatever the buffer, and the lines are computed from that.
 -- Assumes nothing.
-use Prim.Native.Nat.{ℕ, zero, suc, _<_, _≤_}
+use Prim.Native.Nat.{ℕ, zero, suc, _<_}
 use mathlib.Core.List.{List, [], _∷_, _++_}
 use mathlib.Core.Path.{_≡_, refl, sym, _∙_, ap}
 use native.Mathlib.Omega.{arith}
@@ -13,7 +13,7 @@ use Rattle.judge.specs.declared.reply.Verdict.{Verdict}
 use Rattle.judge.specs.declared.reply.Verdict.the-variants.{Accepted}
 use Rattle.judge.proofs.Cases.{marked-cases}
 use Rattle.judge.proofs.Views.{view, readable-view, same-verdict, same-rules}
-use Rattle.report.specs.Text.{digitsWithin, eventLine, eventLines, lastLine, textOf, Reported}
+use Rattle.report.specs.Text.{digitsWithin, eventLine, eventLines, lastLine, textOf}
 use Rattle.report.specs.Promises.{sampleText, SampleText}
 
 -- the lines are fixed by the rule numbers of the events

@@ -1,16 +1,15 @@
 -- The key exchange and the certificate's proof: each test passes exactly when the paper's rule puts the event there.
 -- Assumes nothing.
-use Prim.Native.Nat.{ℕ, suc, _<_, _≤_}
-use mathlib.Core.Bool.{Bool, true, false, not, _&&_, true≢false}
+use Prim.Native.Nat.{ℕ, suc, _<_}
+use mathlib.Core.Bool.{true, not, _&&_}
 use mathlib.Core.List.{List}
 use mathlib.Core.Path.{_≡_, refl, sym, _∙_, ap}
 use lib.Dec.{eqb}
 use borrow.Author.Tests.{eqb-true, eq-eqb}
 use Rattle.paper.specs.Message as paper
 use Rattle.paper.specs.Event as event
-use Rattle.paper.specs.Event.{In}
 use Rattle.paper.specs.Rules.{Step, CertVerify, Exchange, ClientKeyExch}
-use Rattle.trace.specs.File.{rowsOf, eventsOf}
+use Rattle.trace.specs.File.{eventsOf}
 use Rattle.trace.specs.Events.{eventAt}
 use Rattle.trace.specs.Meaning.{message, eventMeant, beginning, bad}
 use Rattle.trace.specs.Promises.{Promised}
@@ -22,7 +21,7 @@ use Rattle.forms.proofs.Shaped.{shapes}
 use Rattle.earlier.specs.declared.Wanted.the-variants.{ReplyWith, Cert, Secret}
 use Rattle.earlier.specs.Earlier.{heardAt, saidBy, earlier, past}
 use Rattle.rules.specs.Tests.{fresh, keyExchange, certVerify}
-use Rattle.earlier.proofs.Meant.{says-meant, notes-meant, says-told, notes-told, not-later, here-row, not-true}
+use Rattle.earlier.proofs.Meant.{says-meant, notes-meant, says-told, notes-told, not-later, here-row}
 use Rattle.earlier.proofs.Premises.{event-same, says-same, notes-same, crypt-same, nonce-one, one-row, note-same, reply-with-sound, reply-with-complete, cert-sound, cert-complete, secret-sound, secret-complete}
 use Rattle.rules.proofs.Steps.{Rights, fresh-sound, fresh-complete}
 

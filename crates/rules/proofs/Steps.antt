@@ -1,7 +1,6 @@
 -- The rules of one message: each test passes exactly when the paper's rule puts the event on the trace so far.
 -- Assumes nothing.
-use Prim.Native.Nat.{ℕ, _<_, _≤_}
-use native.Mathlib.Omega.{arith}
+use Prim.Native.Nat.{ℕ, _<_}
 use mathlib.Core.Bool.{Bool, true, false, not, _&&_, true≢false}
 use mathlib.Core.List.{List}
 use mathlib.Core.Path.{_≡_, refl, sym, _∙_, ap}
@@ -9,10 +8,9 @@ use lib.Dec.{eqb}
 use borrow.Author.Tests.{eqb-true, eq-eqb}
 use Rattle.paper.specs.Message as paper
 use Rattle.paper.specs.Event as event
-use Rattle.paper.specs.Event.{In}
 use Rattle.paper.specs.Spy.{Spies, Analz, Synth}
 use Rattle.paper.specs.Used.{Used}
-use Rattle.paper.specs.Rules.{CH, SH, cert, Step, Fake, SpyKeys, ClientHello, ServerHello, Certificate, Oops}
+use Rattle.paper.specs.Rules.{SH, Step, Fake, SpyKeys, ClientHello, ServerHello, Certificate, Oops}
 use Rattle.trace.specs.File.{rowsOf, eventsOf}
 use Rattle.trace.specs.Events.{eventAt}
 use Rattle.trace.specs.Meaning.{message, eventMeant, beginning, bad}
@@ -28,7 +26,7 @@ use Rattle.earlier.specs.declared.Wanted.the-variants.{HelloFor, Under}
 use Rattle.earlier.specs.Earlier.{heardAt, notedBy, earlier, past}
 use Rattle.rules.specs.Tests.{fresh, canMake, fake, spyKeys, clientHello, serverHello, certificate, oops}
 use Rattle.earlier.proofs.Meant.{says-meant, notes-meant, says-told, notes-told, not-later, here-row, not-true}
-use Rattle.earlier.proofs.Premises.{event-same, says-same, notes-same, nonce-one, key-one, one-message, one-row, hello-same, cert-same, hello-for-sound, hello-for-complete, under-sound, under-complete}
+use Rattle.earlier.proofs.Premises.{event-same, says-same, notes-same, nonce-one, key-one, hello-same, cert-same, hello-for-sound, hello-for-complete, under-sound, under-complete}
 
 -- the marks of the rows are those of the trace of the first e events
 pub record Rights (file used known : List ℕ) (e : ℕ) : Type 0 where

@@ -9,7 +9,6 @@ use mathlib.Core.Path.{_≡_, refl, sym, _∙_, subst}
 use native.Mathlib.Omega.{arith}
 use lib.ListN.{getD}
 use Rattle.paper.specs.Message.{msg}
-use Rattle.paper.specs.Event as event
 use Rattle.paper.specs.Event.{trace, here, Beginning, whole, earlier}
 use Rattle.paper.specs.Spy.{Starts, own, Spies, start, said, noted, Synth}
 use Rattle.paper.specs.Closures.{Within}
@@ -19,7 +18,6 @@ use Rattle.trace.specs.File.{rowsOf, eventsOf, compromisedIn}
 use Rattle.trace.specs.Rows.{choose}
 use Rattle.trace.specs.Events.{eventAt}
 use Rattle.trace.specs.Refusal.{Told}
-use Rattle.trace.specs.Reading.{reading}
 use Rattle.trace.specs.Meaning.{messages, message, eventMeant, beginning, bad}
 use Rattle.trace.specs.Promises.{Promised, Exists, says, notes}
 use Rattle.trace.specs.declared.AgentNo.{AgentNo}
@@ -28,7 +26,6 @@ use Rattle.trace.specs.declared.Event.{Event}
 use Rattle.trace.specs.declared.Event.the-variants.{Says, Notes}
 use Rattle.trace.specs.declared.Reading.the-variants.{Readable}
 use Rattle.trace.proofs.First.{bool-cases, lt-suc}
-use Rattle.trace.proofs.Meaning.{message-row, messages-suc}
 use Rattle.trace.proofs.Promised.{promises}
 use Rattle.spy.specs.Knowledge.{Mark, analysed, made, neither, Marks, Knows, written, seenIn}
 use Rattle.spy.specs.Promises.{OnlyGrows, struckOut, eventsLeft, SameRows, SeenDecides}
@@ -130,18 +127,14 @@ module _ (file : List ℕ) (P : Promised file) where
 
 -- equal rows have equal messages
 module _ (file other : List ℕ) (s : SameRows file other) where
-  message-among : (r : ℕ) → r < rowsOf file → messages file r ≡ messages other r → message file r ≡ message other r
-  message-among r l e = message-row file r ∙ rw (e, s .each r l) (sym (message-row other r))
-
   messages-same : (n : ℕ) → n ≤ rowsOf file → messages file n ≡ messages other n
   unfolding messages
   messages-same zero l = refl
-  messages-same (suc n) l =
-      let e = messages-same n (omega arith) in
-      messages-suc file n ∙ rw (e, message-among n (omega arith) e) (sym (messages-suc other n))
+  messages-same (suc n) l = rw (messages-same n (omega arith), s .each n (omega arith))
 
   message-same : (r : ℕ) → r < rowsOf file → message file r ≡ message other r
-  message-same r l = message-among r l (messages-same r (omega arith))
+  unfolding message
+  message-same r l = rw (messages-same r (omega arith), s .each r l)
 
   shown-same : {X : msg} {es : List Event} → Shown file X es → Shown other X es
   shown-same (by-says {r = r} l q) = by-says (rw (s .count) at l) (sym (message-same (r .0) l) ∙ q)

@@ -6,10 +6,9 @@ use mathlib.Core.Logic.{_↔_}
 use mathlib.Core.Path.{_≡_}
 use lib.ListN.{length, getD}
 use Rattle.trace.specs.File.{rowsOf, eventsOf, compromisedIn}
-use Rattle.trace.specs.Rows.{choose}
+use Rattle.trace.specs.Rows.{choose, fieldsAt}
 use Rattle.trace.specs.Events.{eventAt}
 use Rattle.trace.specs.Refusal.{numberOf, placeOf, Told}
-use Rattle.trace.specs.Kinds.{rowAt}
 use Rattle.trace.specs.declared.Cause.{Cause}
 use Rattle.trace.specs.declared.Reading.the-variants.{Refused, Readable}
 use Rattle.trace.specs.declared.Event.{Event}
@@ -57,7 +56,7 @@ eventsLeft file (suc n) = choose (struckOut file (eventAt file n)) (eventsLeft f
 
 pub record SameRows (file other : List ℕ) : Type 0 where
   pub count : rowsOf file ≡ rowsOf other
-  pub each : (r : ℕ) → r < rowsOf file → rowAt file r ≡ rowAt other r
+  pub each : (r : ℕ) → r < rowsOf file → fieldsAt file r ≡ fieldsAt other r
   pub compromised : (A : ℕ) → compromisedIn file A ≡ compromisedIn other A
 
 -- what the spy sees decides what it knows: document 01's paragraph

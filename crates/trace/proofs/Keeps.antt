@@ -6,7 +6,7 @@ use mathlib.Core.Path.{_≡_, refl, ap}
 use native.Mathlib.Omega.{arith}
 use native.Mathlib.Decide.{ℕ-discrete}
 use Rattle.trace.specs.Rows as table
-use Rattle.trace.specs.Rows.{fieldsAt, kindAt, KeepsLine, Refers, Line}
+use Rattle.trace.specs.Rows.{fieldsAt, KeepsLine, Refers, Line}
 use Rattle.trace.specs.Kinds.{roleOf, rowOf, rowAt}
 use Rattle.trace.specs.Promises.{NonceRow, plain, prf, KeyRow, public, private, session, NonceBelow, KeyBelow, Keeps, agent, number, nonce, publicKey, privateKey, sessionKey, hash, crypt, pair}
 use Rattle.trace.specs.declared.rows.Fields.{Fields}

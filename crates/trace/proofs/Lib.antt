@@ -5,6 +5,7 @@ pub mod Causes
 pub mod Lines
 pub mod Same
 pub mod Fits
+pub mod Contents
 pub mod Tested
 pub mod Refusal
 pub mod Told

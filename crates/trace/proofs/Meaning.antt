@@ -33,7 +33,7 @@ role-same Server Client e = absurd (true≢false (cc))
 role-same Server Server e = refl
 
 -- a row's message by what the row is
-abbrev pub rowMeant : (ℕ → paper.msg) → Row → paper.msg
+abbrev rowMeant : (ℕ → paper.msg) → Row → paper.msg
 rowMeant m (Agent a) = paper.Agent (a .0)
 rowMeant m (Number n) = paper.Number (n .0)
 rowMeant m (Nonce n) = paper.Nonce (paper.plain (n .0))
@@ -80,11 +80,11 @@ meant-row m f e (kinds.more l) =
 
 module _ (file : List ℕ) where
   -- the message of a row, by what the row is
-  pub message-row : (r : ℕ) → message file r ≡ rowMeant (among (messages file r)) (rowAt file r)
+  message-row : (r : ℕ) → message file r ≡ rowMeant (among (messages file r)) (rowAt file r)
   unfolding message
   message-row r = meant-row (among (messages file r)) (fieldsAt file r) refl (kindOf _)
 
-  pub messages-suc : (n : ℕ) → messages file (suc n) ≡ messages file n ++ (message file n ∷ [])
+  messages-suc : (n : ℕ) → messages file (suc n) ≡ messages file n ++ (message file n ∷ [])
   unfolding messages message
   messages-suc n = refl
 

@@ -9,8 +9,8 @@ use native.Mathlib.Omega.{arith}
 use borrow.Author.Tests.{not-false}
 use Rattle.trace.specs.File.{rowsOf, eventsOf, compromisedIn}
 use Rattle.trace.specs.Rows.{fieldsAt, KeepsLine}
-use Rattle.trace.specs.Events.{EventLine, KeepsEventLine, eventOf, eventAt}
-use Rattle.trace.specs.Refusal.{Wrong, spy, authority, row, repeated, event, Told, readable}
+use Rattle.trace.specs.Events.{EventLine, KeepsEventLine, eventOf}
+use Rattle.trace.specs.Refusal.{Wrong, spy, authority, row, repeated, event, readable}
 use Rattle.trace.specs.Kinds.{rowAt}
 use Rattle.trace.specs.Reading.{reading}
 use Rattle.trace.specs.Events as table

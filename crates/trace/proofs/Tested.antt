@@ -1,22 +1,25 @@
 -- The tests are exact: an event passes exactly when it keeps its line, and two rows are equal in their eight bytes exactly when their
--- five numbers are. (Rows pass exactly when they keep their lines: `Fits`.)
+-- five numbers are. (The first bytes: `Contents`. Rows pass exactly when they keep their lines: `Fits`.)
 -- Assumes nothing.
-use Prim.Native.Nat.{ℕ, zero, suc, _+_, _*_, _%_, _<_, _≤_}
-use mathlib.Core.Bool.{Bool, true, _&&_, _||_}
+use Prim.Native.Nat.{ℕ, zero, suc, _+_, _*_, _<_, _≤_}
+use mathlib.Core.Bool.{Bool, true, false, _&&_, _||_}
 use mathlib.Core.List.{List}
+use mathlib.Core.Logic.{_↔_, ⊎-elim}
 use mathlib.Core.Path.{_≡_, refl, sym, _∙_, ap}
 use native.Mathlib.Omega.{arith}
-use native.Mathlib.Nat.{add-zero, mod-lt}
+use native.Mathlib.Nat.{add-zero}
 use native.Mathlib.Decide.{ℕ-discrete}
 use lib.Dec.{eqb, ltb, leb}
-use borrow.Author.Tests.{eqb-true, ltb-true, leb-true, lt-ltb, eq-eqb, ne-eqb}
+use borrow.Author.Tests.{eqb-true, ltb-true, leb-true, lt-ltb, ne-eqb}
 use Rattle.trace.specs.File.{byte, word, rowsAt, rowsOf, agentLimit}
 use Rattle.trace.specs.Rows.{fieldsAt, SameBytes}
 use Rattle.trace.specs.Events.{partsAt, EventLine, says, notes, KeepsEventLine}
-use Rattle.trace.specs.Tests.{eventFits, sameFields}
+use Rattle.trace.specs.Tests.{eventFits}
 use Rattle.trace.specs.Promises.{Tested}
 use Rattle.trace.specs.declared.events.Parts.{Parts}
+use Rattle.trace.proofs.First.{bool-cases}
 use Rattle.trace.proofs.Both.{both, both4}
+use Rattle.trace.proofs.Contents.{is-version, not-version, is-set, not-set, is-contents, not-contents}
 use Rattle.trace.proofs.Same.{same-equal, equal-same}
 use Rattle.trace.proofs.Fits.{fits-keeps, keeps-fits}
 
@@ -117,9 +120,16 @@ module _ (file : List ℕ) where
     fields-bytes e (suc (suc (suc (suc (suc (suc (suc zero))))))) l = same-two 6 (ap (λ f. f .third) e) .1
     fields-bytes e (suc (suc (suc (suc (suc (suc (suc (suc k)))))))) l = absurd (omega arith)
 
+-- of a test that decides a line of the table
+decided : {b : Bool} {W : Type 0} → (b ≡ true → W) → (b ≡ false → ¬ W) → (b ≡ true) ↔ W
+decided {b} {W} yes′ no′ = (yes′, λ w. ⊎-elim (λ t. t) (λ f. absurd (no′ f w)) (bool-cases b))
+
 pub tested : Tested
 tested =
     record {
+      version = λ file. decided (is-version file) (not-version file);
+      set = λ file. decided (is-set file) (not-set file);
+      contents = λ file. decided (is-contents file) (not-contents file);
       line = λ file r. (fits-keeps file r, keeps-fits file r);
       event = λ file e. (event-keeps file e, event-fits file e);
       bytes = λ file r s. (fields-bytes file r s, bytes-fields file r s);

@@ -1,16 +1,15 @@
 -- The table has one answer, and `reading` gives it. Each line's test says whether the line holds, no two places satisfy one line, and of two
 -- numbers the lower applies. Assumes nothing.
 use Prim.Native.Nat.{ℕ, suc, _+_, _*_, _<_, _≤_}
-use mathlib.Core.Bool.{Bool, true, false, true≢false, _||_, not}
+use mathlib.Core.Bool.{Bool, true, false, true≢false}
 use mathlib.Core.List.{List}
 use mathlib.Core.Logic.{_⊎_, inl, inr, ⊎-elim}
 use mathlib.Core.Path.{_≡_, refl, sym, _∙_, ap}
 use native.Mathlib.Omega.{arith}
 use native.Mathlib.Decide.{decLt, ℕ-discrete}
-use lib.Dec.{eqb, ltb}
 use lib.ListN.{length}
-use borrow.Author.Tests.{eqb-true, eqb-false, ltb-true, ltb-false, not-true, not-false}
-use Rattle.trace.specs.File.{word, rowLimit, eventLimit, rowsAt, rowsOf, eventsOf, eventsAt, compromisedIn}
+use borrow.Author.Tests.{not-true, not-false}
+use Rattle.trace.specs.File.{rowLimit, eventLimit, rowsAt, rowsOf, eventsOf, eventsAt}
 use Rattle.trace.specs.Rows.{KeepsLine}
 use Rattle.trace.specs.Events.{KeepsEventLine}
 use Rattle.trace.specs.Refusal.{numberOf, placeOf, Lowest, Repeated, Wrong, short, version, reserved, spy, authority, rows, events, rows-offset, events-offset, size, row, repeated, event, Told, refused, readable}
@@ -19,12 +18,12 @@ use Rattle.trace.specs.Tests.{headerOf, wrongVersion, wrongSet, wrongCon
 use Rattle.trace.specs.Reading.{readItems, reading}
 use Rattle.trace.specs.Promises.{Refusals}
 use Rattle.trace.specs.declared.Cause.{Cause}
-use Rattle.trace.specs.declared.Cause.the-variants.{TooShort, WrongVersion, WrongSet, WrongContents, BadRow, RepeatedRow, BadEvent}
+use Rattle.trace.specs.declared.Cause.the-variants.{TooShort, WrongContents, BadRow, RepeatedRow, BadEvent}
 use Rattle.trace.specs.declared.Reading.{Reading}
 use Rattle.trace.specs.declared.Reading.the-variants.{Refused, Readable}
 use Rattle.trace.proofs.First.{find, first-found, first-none, any-some, any-inv, bool-cases, lt-suc}
-use Rattle.trace.proofs.Both.{either, or-false, or-false-right}
 use Rattle.trace.proofs.Causes.{causeOf, cause-numbered, one-cause, number-range}
+use Rattle.trace.proofs.Contents.{is-version, not-version, is-set, not-set, is-contents, not-contents}
 use Rattle.trace.proofs.Tested.{tested}
 use Rattle.trace.proofs.Refusal.{reading-short, reading-version, reading-set, reading-contents, reading-items, items-row, items-repeat, items-event, items-readable}
 
@@ -67,69 +66,6 @@ lowest-one P n j k a b =
     omega arith
 
 module _ (file : List ℕ) where
-  -- each line's test, both ways
-  is-version : wrongVersion (headerOf file) ≡ true → Wrong file WrongVersion
-  is-version t =
-      ⊎-elim (λ a. version (eqb-false _ 1 (not-true _ a))) (λ a. reserved (eqb-false _ 0 (not-true _ a))) (either _ (not (eqb (word file 2) 0)) t)
-
-  not-version : wrongVersion (headerOf file) ≡ false → ¬ Wrong file WrongVersion
-  not-version f (version n) = n (eqb-true _ 1 (not-false _ (or-false _ (not (eqb (word file 2) 0)) f)))
-  not-version f (reserved n) = n (eqb-true _ 0 (not-false _ (or-false-right (not (eqb (word file 0) 1)) _ f)))
-
-  is-set : wrongSet file ≡ true → Wrong file WrongSet
-  is-set t = ⊎-elim (λ a. spy (λ b. true≢false (sym b ∙ not-true _ a))) authority (either _ (compromisedIn file 1) t)
-
-  not-set : wrongSet file ≡ false → ¬ Wrong file WrongSet
-  not-set f (spy n) = n (not-false _ (or-false _ (compromisedIn file 1) f))
-  not-set f (authority b) = true≢false (sym b ∙ or-false-right (not (compromisedIn file 0)) _ f)
-
-  -- the five tests of the contents part
-  abbrev a : Bool
-  a = ltb rowLimit (rowsOf file)
-
-  abbrev b : Bool
-  b = ltb eventLimit (eventsOf file)
-
-  abbrev c : Bool
-  c = not (eqb (word file 12) rowsAt)
-
-  abbrev d : Bool
-  d = not (eqb (word file 16) (eventsAt file))
-
-  abbrev e : Bool
-  e = not (eqb (length file) (eventsAt file + 8 * eventsOf file))
-
-  is-contents : wrongContents (headerOf file) (length file) ≡ true → Wrong file WrongContents
-  is-contents t = ⊎-elim four (λ h. size (eqb-false _ _ (not-true _ h))) (either (a || b || c || d) e t)
-    where
-      two : (a || b) ≡ true → Wrong file WrongContents
-      two h = ⊎-elim (λ g. rows (ltb-true _ _ g)) (λ g. events (ltb-true _ _ g)) (either a b h)
-
-      three : (a || b || c) ≡ true → Wrong file WrongContents
-      three h = ⊎-elim two (λ g. rows-offset (eqb-false _ _ (not-true _ g))) (either (a || b) c h)
-
-      four : (a || b || c || d) ≡ true → Wrong file WrongContents
-      four h = ⊎-elim three (λ g. events-offset (eqb-false _ _ (not-true _ g))) (either (a || b || c) d h)
-
-  not-contents : wrongContents (headerOf file) (length file) ≡ false → ¬ Wrong file WrongContents
-  not-contents f = go
-    where
-      four : (a || b || c || d) ≡ false
-      four = or-false (a || b || c || d) e f
-
-      three : (a || b || c) ≡ false
-      three = or-false (a || b || c) d four
-
-      two : (a || b) ≡ false
-      two = or-false (a || b) c three
-
-      go : ¬ Wrong file WrongContents
-      go (rows l) = omega (arith, ltb-false rowLimit (rowsOf file) (or-false a b two))
-      go (events l) = omega (arith, ltb-false eventLimit (eventsOf file) (or-false-right a b two))
-      go (rows-offset n) = n (eqb-true _ _ (not-false _ (or-false-right (a || b) c three)))
-      go (events-offset n) = n (eqb-true _ _ (not-false _ (or-false-right (a || b || c) d four)))
-      go (size n) = n (eqb-true _ _ (not-false _ (or-false-right (a || b || c || d) e f)))
-
   pub rows-decided : Decides (badRow file) (Broken file)
   rows-decided =
       record {
@@ -232,18 +168,18 @@ module _ (file : List ℕ) where
   module _ (long : rowsAt ≤ length file) where
     told-contents : wrongVersion (headerOf file) ≡ false → wrongSet file ≡ false → NoneBelow 4 →
         Either (wrongContents (headerOf file) (length file)) → Told file (reading file)
-    told-contents v s none (inl w) = rw (reading-contents file long v s w) (refused (is-contents w) none)
+    told-contents v s none (inl w) = rw (reading-contents file long v s w) (refused (is-contents file w) none)
     told-contents v s none (inr w) =
-        told-row (reading-items file long v s w) (none-more 4 none (λ p. not-contents w)) (find (badRow file) (rowsOf file))
+        told-row (reading-items file long v s w) (none-more 4 none (λ p. not-contents file w)) (find (badRow file) (rowsOf file))
 
     told-set : wrongVersion (headerOf file) ≡ false → NoneBelow 3 → Either (wrongSet file) → Told file (reading file)
-    told-set v none (inl s) = rw (reading-set file long v s) (refused (is-set s) none)
+    told-set v none (inl s) = rw (reading-set file long v s) (refused (is-set file s) none)
     told-set v none (inr s) =
-        told-contents v s (none-more 3 none (λ p. not-set s)) (bool-cases (wrongContents (headerOf file) (length file)))
+        told-contents v s (none-more 3 none (λ p. not-set file s)) (bool-cases (wrongContents (headerOf file) (length file)))
 
     told-version : NoneBelow 2 → Either (wrongVersion (headerOf file)) → Told file (reading file)
-    told-version none (inl v) = rw (reading-version file long v) (refused (is-version v) none)
-    told-version none (inr v) = told-set v (none-more 2 none (λ p. not-version v)) (bool-cases (wrongSet file))
+    told-version none (inl v) = rw (reading-version file long v) (refused (is-version file v) none)
+    told-version none (inr v) = told-set v (none-more 2 none (λ p. not-version file v)) (bool-cases (wrongSet file))
 
   told-short : Dec (length file < rowsAt) → Told file (reading file)
   told-short (yes l) = rw (reading-short file l) (refused (short l) none-below)

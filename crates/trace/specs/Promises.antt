@@ -5,13 +5,14 @@ use mathlib.Core.Bool.{true}
 use mathlib.Core.List.{List}
 use mathlib.Core.Logic.{_↔_}
 use mathlib.Core.Path.{_≡_}
+use lib.ListN.{length}
 use Rattle.paper.specs.Message as paper
 use Rattle.trace.specs.File.{rowLimit, eventLimit, agentLimit, rowsOf, eventsOf}
 use Rattle.trace.specs.Rows.{fieldsAt, KeepsLine, SameBytes}
 use Rattle.trace.specs.Events.{eventAt, KeepsEventLine, partsAt}
-use Rattle.trace.specs.Refusal.{Told}
+use Rattle.trace.specs.Refusal.{Wrong, Told}
 use Rattle.trace.specs.Kinds.{rowAt}
-use Rattle.trace.specs.Tests.{rowFits, eventFits, sameFields}
+use Rattle.trace.specs.Tests.{headerOf, wrongVersion, wrongSet, wrongContents, rowFits, eventFits, sameFields}
 use Rattle.trace.specs.Reading.{reading}
 use Rattle.trace.specs.Meaning.{message, bad}
 use Rattle.trace.specs.declared.AgentNo.{AgentNo}
@@ -24,6 +25,7 @@ use Rattle.trace.specs.declared.Row.{Row}
 use Rattle.trace.specs.declared.Row.the-variants.{Agent, Number, Nonce, Prf, PublicKey, PrivateKey, SessionKey, Hash, Crypt, Pair}
 use Rattle.trace.specs.declared.Event.{Event}
 use Rattle.trace.specs.declared.Event.the-variants.{Says, Notes}
+use Rattle.trace.specs.declared.Cause.the-variants.{WrongVersion, WrongSet, WrongContents}
 use Rattle.trace.specs.declared.Reading.{Reading}
 use Rattle.trace.specs.declared.Reading.the-variants.{Readable}
 
@@ -34,6 +36,9 @@ pub record Refusals : Type 0 where
 
 -- the tests are exact, and rows are equal in their eight bytes exactly when their five numbers are
 pub record Tested : Type 0 where
+  pub version : (file : List ℕ) → (wrongVersion (headerOf file) ≡ true) ↔ Wrong file WrongVersion
+  pub set : (file : List ℕ) → (wrongSet file ≡ true) ↔ Wrong file WrongSet
+  pub contents : (file : List ℕ) → (wrongContents (headerOf file) (length file) ≡ true) ↔ Wrong file WrongContents
   pub line : (file : List ℕ) (r : ℕ) → (rowFits file r ≡ true) ↔ KeepsLine file r
   pub event : (file : List ℕ) (e : ℕ) → (eventFits (partsAt file e) (rowsOf file) ≡ true) ↔ KeepsEventLine file e
   pub bytes : (file : List ℕ) (r s : ℕ) → (fieldsAt file r ≡ fieldsAt file s) ↔ SameBytes file r s

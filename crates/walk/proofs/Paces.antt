@@ -10,7 +10,7 @@ use lib.Dec.{ltb}
 use lib.ListN.{length, set, length-set}
 use borrow.Author.Tests.{lt-ltb, le-ltb, ltb-true}
 use Rattle.trace.specs.Rows.{choose}
-use Rattle.trace.specs.File.{rowLimit, eventLimit, agentLimit, rowsOf, eventsOf}
+use Rattle.trace.specs.File.{rowLimit, eventLimit, agentLimit, rowsOf}
 use Rattle.trace.specs.Events.{eventAt}
 use Rattle.closure.specs.Closure.{keyRoom, seeEvent, startKeys, startRows, zeros}
 use Rattle.closure.proofs.Folds.{known-start, known-more}

@@ -1,6 +1,5 @@
 -- `accepts::agreed_any` meets its contract: what is left of the chain answers for the whole of it.
 -- Assumes nothing.
-use Prim.Native.Nat.{ℕ, _-_}
 use mathlib.Core.Path.{_≡_, refl, sym, _∙_}
 use native.Mathlib.Omega.{arith}
 use denote.Ref.{now}

@@ -1,6 +1,6 @@
 -- `closure::pass_down` meets its contract: one turn more leaves one row less of `downRows`.
 -- Assumes nothing.
-use Prim.Native.Nat.{_≤_, _-_}
+use Prim.Native.Nat.{_≤_}
 use mathlib.Core.Path.{_≡_, refl}
 use native.Mathlib.Omega.{arith}
 use denote.Ref.{now}

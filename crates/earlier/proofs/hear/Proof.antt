@@ -1,6 +1,5 @@
 -- `earlier::hear` meets its contract: the kind says which event it is.
 -- Assumes nothing.
-use Prim.Native.Nat.{ℕ}
 use mathlib.Core.Bool.{true, false}
 use mathlib.Core.Path.{_≡_, refl, _∙_, ap}
 use borrow.Author.Tests.{eqb-true}

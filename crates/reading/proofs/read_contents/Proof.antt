@@ -1,10 +1,10 @@
 -- `reading::read_contents` meets its contract: the test of the contents part says which case holds.
 -- Assumes nothing.
 use mathlib.Core.Bool.{Bool}
-use mathlib.Core.Path.{_≡_, refl, sym, _∙_, ap}
+use mathlib.Core.Path.{_≡_, refl, _∙_, ap}
 use denote.Ref.{now}
 use lib.ListN.{length}
-use Rattle.trace.specs.Tests.{headerOf, wrongContents}
+use Rattle.trace.specs.Tests.{wrongContents}
 use Rattle.trace.specs.Reading.{readItems}
 use Rattle.trace.specs.declared.header.Header.{Header}
 use borrow.Author.Needs.{needs}

@@ -4,7 +4,6 @@ use Prim.Native.Nat.{_+_}
 use mathlib.Core.Path.{refl}
 use native.Mathlib.Omega.{arith}
 use borrow.Author.Tests.{lt-ltb, le-ltb}
-use borrow.Author.Needs.{needs}
 use Rattle.trace.specs.File.{eventLimit}
 use Rattle.earlier.proofs.boxes.next.Statement.{statement}
 use Rattle.earlier.proofs.boxes.next.Tie as tie

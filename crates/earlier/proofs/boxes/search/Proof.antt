@@ -5,7 +5,6 @@ use native.Mathlib.Omega.{arith}
 use denote.Ref.{now}
 use Rattle.earlier.specs.Boxes.{chainFrom, some, fitsAt}
 use Rattle.earlier.proofs.Chains.{next-falls, some-step, some-end}
-use borrow.Author.Needs.{needs}
 use Rattle.earlier.proofs.boxes.search.Statement.{statement}
 use Rattle.earlier.proofs.boxes.search.Tie as tie
 

@@ -10,7 +10,6 @@ use borrow.Author.Count.{below-none, below-more}
 use Rattle.trace.specs.File.{agentLimit}
 use Rattle.trace.proofs.First.{any-some, any-none}
 use Rattle.earlier.specs.Boxes.{chainFrom, some, fitsAt}
-use borrow.Author.Needs.{needs}
 use Rattle.earlier.proofs.boxes.search_all.Statement.{statement}
 use Rattle.earlier.proofs.boxes.search_all.Tie as tie
 
