@@ -11,13 +11,13 @@ use Rattle.paper.specs.Event as event
 use Rattle.paper.specs.Event.{In}
 use Rattle.paper.specs.Rules.{agreed, Finished, Step, ClientAccepts, ServerAccepts}
 use Rattle.trace.specs.File.{eventsOf}
-use Rattle.trace.specs.First.{any}
-use Rattle.trace.specs.Rows.{choose}
+use Rattle.laws.specs.First.{any}
+use Rattle.laws.specs.Choose.{choose}
 use Rattle.trace.specs.Events.{eventAt}
 use Rattle.trace.specs.Meaning.{eventMeant, beginning, bad, asNonce}
 use Rattle.trace.specs.Promises.{Promised}
-use Rattle.trace.proofs.First.{any-some, any-inv}
-use Rattle.trace.proofs.Both.{both, both3, both4, refuted}
+use Rattle.laws.proofs.First.{any-some, any-inv}
+use Rattle.laws.proofs.Both.{both, both3, both4, refuted}
 use Rattle.forms.specs.Kinds.{prfOf}
 use Rattle.forms.specs.Forms.{rememberedOf, sealedOf}
 use Rattle.forms.specs.Shapes.{roleNamed, Row-holds}

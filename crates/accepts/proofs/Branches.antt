@@ -4,8 +4,8 @@ use Prim.Native.Nat.{ℕ}
 use mathlib.Core.Bool.{Bool, true, false, not, _&&_, _||_}
 use mathlib.Core.List.{List}
 use mathlib.Core.Path.{_≡_, refl}
-use Rattle.trace.specs.Rows.{choose}
-use Rattle.trace.proofs.Both.{and-true, and-false}
+use Rattle.laws.specs.Choose.{choose}
+use Rattle.laws.proofs.Both.{and-true, and-false}
 use Rattle.forms.specs.Forms.{sealedOf, underKey}
 use Rattle.forms.proofs.Keyed.{gated, key-of}
 use Rattle.accepts.proofs.Accepts.{both8}

@@ -11,9 +11,9 @@ use lib.Dec.{eqb, ltb}
 use lib.ListN.{length, length-replicate}
 use borrow.Author.Tests.{lt-ltb, le-ltb, eq-eqb, eqb-true}
 use Rattle.trace.specs.File.{rowLimit, agentLimit}
-use Rattle.trace.specs.First.{any}
-use Rattle.trace.specs.Rows.{choose}
-use Rattle.trace.proofs.Both.{both, refuted, or-true, or-none, and-true, and-false}
+use Rattle.laws.specs.First.{any}
+use Rattle.laws.specs.Choose.{choose}
+use Rattle.laws.proofs.Both.{both, refuted, or-true, or-none, and-true, and-false}
 use Rattle.forms.specs.Forms.{sealedOf}
 use Rattle.closure.specs.Closure.{rowMarked, markRow, zeros}
 use Rattle.closure.proofs.Marks.{mark-same, mark-other, mark-room, none-marked}

@@ -4,8 +4,8 @@ use mathlib.Core.Bool.{Bool, _&&_, not}
 use mathlib.Core.List.{List, [], _∷_}
 use lib.Dec.{ltb}
 use Rattle.trace.specs.File.{rowLimit}
-use Rattle.trace.specs.First.{any}
-use Rattle.trace.specs.Rows.{choose}
+use Rattle.laws.specs.First.{any}
+use Rattle.laws.specs.Choose.{choose}
 use Rattle.forms.specs.Kinds.{cryptOf}
 use Rattle.forms.specs.Forms.{sealedOf}
 use Rattle.closure.specs.Closure.{rowMarked, markRow, zeros}

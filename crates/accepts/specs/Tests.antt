@@ -3,8 +3,8 @@ use Prim.Native.Nat.{ℕ}
 use mathlib.Core.Bool.{Bool, true, false, _&&_, not}
 use mathlib.Core.List.{List}
 use lib.Dec.{eqb}
-use Rattle.trace.specs.First.{any}
-use Rattle.trace.specs.Rows.{choose}
+use Rattle.laws.specs.First.{any}
+use Rattle.laws.specs.Choose.{choose}
 use Rattle.forms.specs.Kinds.{prfOf}
 use Rattle.forms.specs.Forms.{rememberedOf, sealedOf}
 use Rattle.earlier.specs.declared.Heard.{Heard}

@@ -9,7 +9,7 @@ use trace::limits::ROWS;
 ghost use mathlib.Core.Path.{_≡_};
 ghost use mathlib.Core.Bool.{not, _&&_};
 ghost use lib.Dec.{eqb};
-ghost use Rattle.trace.specs.First.{any};
+ghost use Rattle.laws.specs.First.{any};
 ghost use Rattle.closure.specs.Closure.{markRow};
 ghost use Rattle.earlier.specs.Earlier.{heardAt};
 ghost use Rattle.earlier.specs.Boxes.{latestTo, chainFrom, some, found};

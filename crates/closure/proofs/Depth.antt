@@ -15,8 +15,8 @@ use Rattle.trace.specs.Rows.{kindAt, fieldsAt}
 use Rattle.trace.specs.Kinds.{rowAt}
 use Rattle.trace.specs.declared.Row.{Row}
 use Rattle.trace.specs.declared.rows.Fields.{Fields}
-use Rattle.trace.proofs.Both.{or-true, or-none}
-use Rattle.trace.proofs.First.{bool-cases, lt-suc}
+use Rattle.laws.proofs.Both.{or-true, or-none}
+use Rattle.laws.proofs.First.{bool-cases, lt-suc}
 use Rattle.closure.specs.Closure.{State, stateOf, rowMarked, knowRow, opens, sidesOf, below, learnWith, learnRow, reopenRow}
 use Rattle.closure.specs.declared.Sides.{Sides}
 use Rattle.closure.proofs.Fields.{sides-opened, sides-closed}

@@ -22,7 +22,7 @@ use Rattle.trace.specs.declared.RowNo.{RowNo}
 use Rattle.trace.specs.declared.Row.{Row}
 use Rattle.trace.specs.declared.Event.{Event}
 use Rattle.trace.specs.declared.Event.the-variants.{Says, Notes}
-use Rattle.trace.proofs.First.{bool-cases}
+use Rattle.laws.proofs.First.{bool-cases}
 use Rattle.closure.specs.Closure.{keyRoom, opensRow, opens, sidesOf, seeRow, seeEvent}
 use Rattle.closure.proofs.Marks.{Marked, Known}
 use Rattle.closure.proofs.Grew.{Held}

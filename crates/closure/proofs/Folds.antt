@@ -9,11 +9,11 @@ use native.Mathlib.Omega.{arith}
 use native.Mathlib.Numerals.{add-one}
 use borrow.Author.Tests.{le-ltb}
 use Rattle.trace.specs.File.{rowLimit, agentLimit, rowsOf, compromisedIn}
-use Rattle.trace.specs.Rows.{choose}
+use Rattle.laws.specs.Choose.{choose}
 use Rattle.trace.specs.Events.{eventAt}
 use Rattle.trace.specs.Kinds.{rowAt}
-use Rattle.trace.proofs.Both.{or-true, or-none}
-use Rattle.trace.proofs.First.{bool-cases}
+use Rattle.laws.proofs.Both.{or-true, or-none}
+use Rattle.laws.proofs.First.{bool-cases}
 use Rattle.closure.specs.Closure.{keyRoom, State, stateOf, know, reopens, reopenRow, upRows, downRows, passRows, Reaches, settle, startKeys, keyKnown, markRow, startRows, seeEvent, zeros, knownAfter}
 
 module _ (file : List ℕ) where

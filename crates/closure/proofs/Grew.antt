@@ -17,8 +17,8 @@ use Rattle.trace.specs.Kinds.{rowAt}
 use Rattle.trace.specs.Promises.{Promised, Keeps, agent, number, nonce, prf, publicKey, privateKey, sessionKey, hash, crypt, pair}
 use Rattle.trace.specs.declared.Row.{Row}
 use Rattle.trace.specs.declared.Row.the-variants.{Agent, Number, Nonce, Prf, PublicKey, PrivateKey, SessionKey, Hash, Crypt, Pair}
-use Rattle.trace.proofs.First.{bool-cases}
-use Rattle.trace.proofs.Both.{or-false, or-false-right}
+use Rattle.laws.proofs.First.{bool-cases}
+use Rattle.laws.proofs.Both.{or-false, or-false-right}
 use Rattle.closure.specs.Closure.{keyRoom, State, stateOf, rowMarked, knowRow, opensRow, opens, sidesOf, below, bothSides, learnWith, learnRow}
 use Rattle.closure.specs.declared.Sides.{Sides}
 use Rattle.closure.proofs.Fields.{sides-fixed}

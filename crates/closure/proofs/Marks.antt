@@ -11,8 +11,8 @@ use lib.ListN.{length, getD, set, length-set, replicate, getD-replicate}
 use lib.Seq.{getD-set-same, getD-set-other}
 use borrow.Author.Tests.{lt-ltb, le-ltb, ltb-true}
 use Rattle.trace.specs.File.{rowLimit, agentLimit}
-use Rattle.trace.specs.Rows.{choose}
-use Rattle.trace.proofs.Both.{both}
+use Rattle.laws.specs.Choose.{choose}
+use Rattle.laws.proofs.Both.{both}
 use Rattle.trace.specs.declared.Row.{Row}
 use Rattle.trace.specs.declared.Row.the-variants.{Agent, Number, Nonce, Prf, PublicKey, PrivateKey, SessionKey, Hash, Crypt, Pair}
 use Rattle.closure.specs.Closure.{keyRoom, rowMarked, keyMarked, know, knowRow, markRow}

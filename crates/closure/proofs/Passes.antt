@@ -9,11 +9,12 @@ use native.Mathlib.Omega.{arith}
 use native.Mathlib.Decide.{ℕ-discrete}
 use lib.ListN.{length}
 use Rattle.trace.specs.File.{rowLimit, rowsOf}
-use Rattle.trace.specs.Rows.{choose, kindAt}
+use Rattle.laws.specs.Choose.{choose}
+use Rattle.trace.specs.Rows.{kindAt}
 use Rattle.trace.specs.Kinds.{rowAt}
 use Rattle.trace.specs.Promises.{Promised}
-use Rattle.trace.proofs.Both.{refuted, or-false, or-false-right}
-use Rattle.trace.proofs.First.{bool-cases, lt-suc}
+use Rattle.laws.proofs.Both.{refuted, or-false, or-false-right}
+use Rattle.laws.proofs.First.{bool-cases, lt-suc}
 use Rattle.closure.specs.Closure.{keyRoom, State, stateOf, rowMarked, bothSides, learnRow, reopens, reopenRow, upRows, downRows, passRows, settle, seeRow}
 use Rattle.closure.proofs.Marks.{Marked, Known}
 use Rattle.closure.proofs.Grew.{Held, Grew, grew-still, grew-then, sides-at, Closed, closed-same, learns, both-grew}

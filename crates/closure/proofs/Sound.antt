@@ -19,8 +19,8 @@ use Rattle.trace.specs.Meaning.{message}
 use Rattle.trace.specs.Promises.{Promised, Keeps, Unfolds, asAgent, asNumber, asNonce, asPrf, asPublic, asPrivate, asSession, asHash, asCrypt, asPair, publicKey, privateKey, crypt}
 use Rattle.trace.specs.declared.Row.{Row}
 use Rattle.trace.specs.declared.Row.the-variants.{Crypt}
-use Rattle.trace.proofs.First.{bool-cases}
-use Rattle.trace.proofs.Both.{both}
+use Rattle.laws.proofs.First.{bool-cases}
+use Rattle.laws.proofs.Both.{both}
 use Rattle.closure.specs.Closure.{keyRoom, State, stateOf, rowMarked, know, knowRow, opensRow, opens, sidesOf, below, bothSides, learnWith, learnRow, reopens, reopenRow, upRows, downRows, passRows, settle, seeRow}
 use Rattle.closure.specs.declared.Sides.{Sides}
 use Rattle.closure.proofs.Marks.{Marked, Known, row-other, know-other}

@@ -13,7 +13,7 @@ use borrow.Author.Tests.{ltb-true}
 use Rattle.paper.specs.Message as paper
 use Rattle.paper.specs.Spy.{Starts, own, Spies, start, Analz, inj}
 use Rattle.trace.specs.File.{rowLimit, agentLimit, rowsOf, eventsOf, compromisedIn}
-use Rattle.trace.specs.Rows.{choose}
+use Rattle.laws.specs.Choose.{choose}
 use Rattle.trace.specs.Events.{eventAt}
 use Rattle.trace.specs.Kinds.{rowAt}
 use Rattle.trace.specs.Meaning.{message, bad, beginning}
@@ -21,8 +21,8 @@ use Rattle.trace.specs.Promises.{Promised, Keeps, agent, number, nonce, prf, pu
 use Rattle.trace.specs.declared.AgentNo.{AgentNo}
 use Rattle.trace.specs.declared.Row.{Row}
 use Rattle.trace.specs.declared.Row.the-variants.{PrivateKey}
-use Rattle.trace.proofs.First.{bool-cases, lt-suc}
-use Rattle.trace.proofs.Both.{both}
+use Rattle.laws.proofs.First.{bool-cases, lt-suc}
+use Rattle.laws.proofs.Both.{both}
 use Rattle.closure.specs.Closure.{keyRoom, know, sidesOf, startKeys, keyKnown, markRow, startRows, zeros, knownAfter}
 use Rattle.closure.proofs.Marks.{Marked, Known, none-marked, mark-same, mark-other, mark-keep, mark-room, know-same, know-other, know-keep, know-room}
 use Rattle.closure.proofs.Grew.{Held}

@@ -6,7 +6,8 @@ use mathlib.Core.Path.{_≡_}
 use lib.Dec.{eqb, ltb, leb}
 use lib.ListN.{getD, set, replicate}
 use Rattle.trace.specs.File.{rowLimit, agentLimit, rowsOf, compromisedIn}
-use Rattle.trace.specs.Rows.{choose, kindAt}
+use Rattle.laws.specs.Choose.{choose}
+use Rattle.trace.specs.Rows.{kindAt}
 use Rattle.trace.specs.Events.{eventAt}
 use Rattle.trace.specs.Kinds.{rowAt}
 use Rattle.trace.specs.declared.Event.{Event}

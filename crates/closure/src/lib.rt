@@ -16,7 +16,7 @@ ghost use mathlib.Core.Bool.{true};
 ghost use mathlib.Core.Path.{_≡_};
 ghost use Prim.Native.Nat.{suc, _+_, _<_, _≤_};
 ghost use Rattle.trace.specs.File.{rowLimit, agentLimit, rowsOf, compromisedIn};
-ghost use Rattle.trace.specs.Rows.{choose};
+ghost use Rattle.laws.specs.Choose.{choose};
 ghost use Rattle.trace.specs.Events.{eventAt};
 ghost use Rattle.trace.specs.Kinds.{rowAt};
 ghost use Rattle.closure.specs.Closure.{stateOf, rowMarked, keyMarked, know, knowRow, opens, noSides, sidesOf, below, learnRow, reopenRow, upRows, downRows, passRows, Reaches, seeRow, seeEvent, startKeys, keyKnown, markRow, startRows};

@@ -9,7 +9,7 @@ use Rattle.paper.specs.Message.{Authority}
 use Rattle.trace.specs.Kinds.{rowAt}
 use Rattle.trace.specs.declared.Row.{Row}
 use Rattle.trace.specs.declared.Row.the-variants.{Number, Nonce, Prf, PublicKey, Pair}
-use Rattle.trace.proofs.Both.{both, both3, both4, refuted}
+use Rattle.laws.proofs.Both.{both, both3, both4, refuted}
 use Rattle.forms.specs.Kinds.{agentOf, publicIn, publicOf, privateIn, privateOf, pairIn, pairOf, cryptIn, cryptOf, isNumberRow, isNumber, isNonceRow, isNonce, isKey}
 use Rattle.forms.specs.Forms.{threeOf, fourOf, helloOf, replyOf, keptOf, signedOf, rememberedOf}
 use Rattle.forms.proofs.Flags.{Holds, holds, held, both5, both6}

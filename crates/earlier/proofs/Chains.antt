@@ -10,9 +10,9 @@ use native.Mathlib.Decide.{decLt}
 use lib.Dec.{ltb}
 use borrow.Author.Tests.{lt-ltb, le-ltb}
 use Rattle.trace.specs.File.{eventLimit}
-use Rattle.trace.specs.Rows.{choose}
-use Rattle.trace.proofs.Both.{or-true}
-use Rattle.trace.proofs.First.{bool-cases}
+use Rattle.laws.specs.Choose.{choose}
+use Rattle.laws.proofs.Both.{or-true}
+use Rattle.laws.proofs.First.{bool-cases}
 use Rattle.earlier.specs.Boxes.{behind, next, chain, chainFrom, some}
 use Rattle.earlier.specs.Kept.{Reach, here, further}
 

@@ -12,9 +12,9 @@ use lib.Dec.{eqb, ltb}
 use lib.ListN.{getD}
 use borrow.Author.Tests.{eqb-true, lt-ltb, le-ltb, not-true}
 use Rattle.trace.specs.File.{eventLimit, agentLimit}
-use Rattle.trace.specs.First.{any}
-use Rattle.trace.proofs.First.{any-none, any-some, any-inv, bool-cases}
-use Rattle.trace.proofs.Both.{both, both3, refuted}
+use Rattle.laws.specs.First.{any}
+use Rattle.laws.proofs.First.{any-none, any-some, any-inv, bool-cases}
+use Rattle.laws.proofs.Both.{both, both3, refuted}
 use Rattle.earlier.specs.declared.Heard.{Heard}
 use Rattle.earlier.specs.declared.Wanted.{Wanted}
 use Rattle.earlier.specs.declared.Wanted.the-variants.{HelloFor, HelloBy, HelloTo, ReplyWith, ReplyTo, ReplyBy, Cert, Secret, Sent, Session, Under}

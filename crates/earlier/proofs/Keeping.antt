@@ -14,10 +14,10 @@ use lib.ListN.{getD, set, length, length-set, replicate, length-replicate}
 use lib.Seq.{getD-set-same, getD-set-other}
 use borrow.Author.Tests.{eqb-true, lt-ltb, ltb-true}
 use Rattle.trace.specs.File.{eventLimit, agentLimit}
-use Rattle.trace.specs.Rows.{choose}
-use Rattle.trace.proofs.First.{lt-suc, bool-cases}
-use Rattle.trace.proofs.Both.{both3, both4}
-use Rattle.trace.proofs.Zeros.{zeros}
+use Rattle.laws.specs.Choose.{choose}
+use Rattle.laws.proofs.First.{lt-suc, bool-cases}
+use Rattle.laws.proofs.Both.{both3, both4}
+use Rattle.laws.proofs.Zeros.{zeros}
 use Rattle.earlier.specs.declared.Heard.{Heard}
 use Rattle.earlier.specs.declared.cards.Card.{Card}
 use Rattle.earlier.specs.Earlier.{heardAt, sameHeard}

@@ -17,8 +17,8 @@ use Rattle.trace.specs.Meaning.{message, eventMeant, beginning}
 use Rattle.trace.specs.Promises.{Promised, Exists, says, notes}
 use Rattle.trace.specs.declared.Event.{Event}
 use Rattle.trace.specs.declared.Event.the-variants.{Says, Notes}
-use Rattle.trace.proofs.First.{lt-suc}
-use Rattle.trace.proofs.Both.{both, both3}
+use Rattle.laws.proofs.First.{lt-suc}
+use Rattle.laws.proofs.Both.{both, both3}
 use Rattle.earlier.specs.Earlier.{heardIn, heardAt, saidTo, saidBy, notedBy}
 
 -- an event of the file is in its trace

@@ -13,8 +13,8 @@ use Rattle.trace.specs.File.{rowsOf, eventsOf}
 use Rattle.trace.specs.Events.{eventAt}
 use Rattle.trace.specs.Meaning.{message, beginning, asNonce, asKey}
 use Rattle.trace.specs.Promises.{Promised}
-use Rattle.trace.proofs.First.{any-some, any-inv}
-use Rattle.trace.proofs.Both.{both, both3, both4}
+use Rattle.laws.proofs.First.{any-some, any-inv}
+use Rattle.laws.proofs.Both.{both, both3, both4}
 use Rattle.forms.specs.Kinds.{cryptOf, publicOf}
 use Rattle.forms.specs.Forms.{helloOf, replyOf, keptOf, signedOf, rememberedOf}
 use Rattle.forms.specs.Shapes.{Row-holds}

@@ -7,8 +7,8 @@ use mathlib.Core.Path.{_≡_, refl, sym, _∙_, ap}
 use lib.Dec.{eqb, ltb}
 use borrow.Author.Tests.{lt-ltb, eq-eqb, ne-eqb, not-true}
 use Rattle.trace.specs.File.{eventLimit}
-use Rattle.trace.specs.Rows.{choose}
-use Rattle.trace.proofs.Both.{both, both3, refuted, and-true, and-false}
+use Rattle.laws.specs.Choose.{choose}
+use Rattle.laws.proofs.Both.{both, both3, refuted, and-true, and-false}
 use Rattle.forms.specs.Kinds.{cryptOf, publicOf}
 use Rattle.forms.specs.Forms.{helloOf, replyOf, keptOf, signedOf, rememberedOf}
 use Rattle.forms.specs.declared.leaves.One.{One}

@@ -6,8 +6,8 @@ use mathlib.Core.List.{List, [], _∷_}
 use lib.Dec.{ltb}
 use lib.ListN.{getD}
 use Rattle.trace.specs.File.{eventLimit, agentLimit}
-use Rattle.trace.specs.First.{any}
-use Rattle.trace.specs.Rows.{choose}
+use Rattle.laws.specs.First.{any}
+use Rattle.laws.specs.Choose.{choose}
 use Rattle.earlier.specs.declared.Heard.{Heard}
 use Rattle.earlier.specs.declared.Wanted.{Wanted}
 use Rattle.earlier.specs.declared.Wanted.the-variants.{HelloFor, HelloBy, HelloTo, ReplyWith, ReplyTo, ReplyBy, Cert, Secret, Sent, Session, Under}

@@ -3,7 +3,7 @@ use Prim.Native.Nat.{ℕ}
 use mathlib.Core.Bool.{Bool, true, false, not, _&&_, _||_}
 use mathlib.Core.List.{List}
 use lib.Dec.{eqb}
-use Rattle.trace.specs.Rows.{choose}
+use Rattle.laws.specs.Choose.{choose}
 use Rattle.forms.specs.Kinds.{cryptOf, publicOf}
 use Rattle.forms.specs.Forms.{helloOf, replyOf, keptOf, signedOf, rememberedOf}
 use Rattle.forms.specs.declared.leaves.One.{One}

@@ -21,7 +21,7 @@ ghost use mathlib.Core.Path.{_≡_};
 ghost use Prim.Native.Nat.{_<_};
 ghost use lib.ListN.{getD};
 ghost use Rattle.trace.specs.File.{eventLimit, agentLimit};
-ghost use Rattle.trace.specs.First.{any};
+ghost use Rattle.laws.specs.First.{any};
 ghost use lib.Dec.{ltb};
 ghost use mathlib.Core.Bool.{_&&_};
 ghost use Rattle.earlier.specs.Earlier.{heardAt};

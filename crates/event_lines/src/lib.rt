@@ -4,7 +4,7 @@ use trace::events::parts_at;
 use trace::limits::AGENTS;
 ghost use mathlib.Core.Path.{_≡_};
 ghost use Rattle.trace.specs.Tests.{eventFits, badEvent};
-ghost use Rattle.trace.specs.First.{first};
+ghost use Rattle.laws.specs.First.{first};
 
 // Whether the event's parts are in range, its zeros are zero and its row exists.
 fn event_fits(p: Parts, rows: u16) -> bool

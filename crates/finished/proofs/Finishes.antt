@@ -13,7 +13,7 @@ use Rattle.trace.specs.File.{eventsOf}
 use Rattle.trace.specs.Events.{eventAt}
 use Rattle.trace.specs.Meaning.{eventMeant, beginning, bad}
 use Rattle.trace.specs.Promises.{Promised}
-use Rattle.trace.proofs.Both.{both}
+use Rattle.laws.proofs.Both.{both}
 use Rattle.forms.specs.Kinds.{prfOf}
 use Rattle.forms.specs.Forms.{sealedOf}
 use Rattle.forms.specs.Shapes.{roleNamed}

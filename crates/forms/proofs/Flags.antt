@@ -2,7 +2,7 @@
 -- Assumes nothing.
 use mathlib.Core.Bool.{Bool, true, _&&_}
 use mathlib.Core.Path.{_≡_, sym, subst}
-use Rattle.trace.proofs.Both.{both, both4}
+use Rattle.laws.proofs.Both.{both, both4}
 
 -- only `true` holds, so that a case by it leaves only the rows whose flag is true
 pub data Holds : Bool → Type 0 where

@@ -11,7 +11,7 @@ use Rattle.paper.specs.Rules.{CH, SH, cert, secretNote, sessionNote}
 use Rattle.trace.specs.File.{rowsOf}
 use Rattle.trace.specs.Meaning.{message}
 use Rattle.trace.specs.Promises.{Promised}
-use Rattle.trace.proofs.Both.{both3, both4}
+use Rattle.laws.proofs.Both.{both3, both4}
 use Rattle.forms.specs.Kinds.{agentOf, privateOf, pairOf, cryptOf, isNumber, isNonce, isKey}
 use Rattle.forms.specs.Forms.{threeOf, fourOf, helloOf, replyOf, keptOf, signedOf, rememberedOf}
 use Rattle.forms.specs.Shapes.{IsHello, IsReply, IsKept, IsSigned, IsRemembered}

@@ -7,9 +7,9 @@ use mathlib.Core.Logic.{_⊎_, inl, inr}
 use mathlib.Core.Path.{_≡_, refl, sym, _∙_, ap}
 use lib.Dec.{eqb}
 use Rattle.paper.specs.Message as paper
-use Rattle.trace.specs.Rows.{choose}
-use Rattle.trace.proofs.First.{bool-cases}
-use Rattle.trace.proofs.Both.{both}
+use Rattle.laws.specs.Choose.{choose}
+use Rattle.laws.proofs.First.{bool-cases}
+use Rattle.laws.proofs.Both.{both}
 use Rattle.forms.specs.Kinds.{cryptOf, sessionOf}
 use Rattle.forms.specs.Forms.{agreementOf, sealedOf, underKey}
 use Rattle.forms.specs.Shapes.{roleNamed}

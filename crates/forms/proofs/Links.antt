@@ -8,7 +8,7 @@ use Rattle.paper.specs.Message as paper
 use Rattle.trace.specs.File.{rowsOf}
 use Rattle.trace.specs.Meaning.{message}
 use Rattle.trace.specs.Promises.{Promised}
-use Rattle.trace.proofs.Both.{both}
+use Rattle.laws.proofs.Both.{both}
 use Rattle.forms.specs.Kinds.{pairOf}
 use Rattle.forms.specs.Forms.{threeOf, fourOf}
 use Rattle.forms.specs.Shapes.{IsThree, IsFour}

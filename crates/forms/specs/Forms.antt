@@ -3,7 +3,7 @@ use Prim.Native.Nat.{ℕ}
 use mathlib.Core.Bool.{Bool, not, _&&_}
 use mathlib.Core.List.{List}
 use lib.Dec.{eqb}
-use Rattle.trace.specs.Rows.{choose}
+use Rattle.laws.specs.Choose.{choose}
 use Rattle.paper.specs.Message.{Authority}
 use Rattle.forms.specs.declared.leaves.Three.{Three}
 use Rattle.forms.specs.declared.chains.Four.{Four}

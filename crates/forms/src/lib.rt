@@ -6,7 +6,7 @@ pub mod leaves;
 ghost use mathlib.Core.Path.{_≡_};
 ghost use Rattle.forms.specs.Forms.{helloOf, replyOf, keptOf, signedOf, rememberedOf, agreementOf, sealedOf, underKey, derivedOf, verifiedOf};
 ghost use mathlib.Core.Bool.{not};
-ghost use Rattle.trace.specs.Rows.{choose};
+ghost use Rattle.laws.specs.Choose.{choose};
 
 // Document 01: agent 1 signs certificates.
 const AUTHORITY: u16 = 1;

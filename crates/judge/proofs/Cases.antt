@@ -7,7 +7,7 @@ use Rattle.trace.specs.Kinds.{rowOf}
 use Rattle.trace.specs.Tests.{lineOf}
 use Rattle.trace.specs.Reading.{reading, readItems}
 use Rattle.trace.specs.Sample.{over}
-use Rattle.trace.specs.First.{first, any}
+use Rattle.laws.specs.First.{first, any}
 use Rattle.trace.specs.declared.Reading.the-variants.{Readable}
 use Rattle.closure.specs.Closure.{learnRow, upRows, downRows, passRows, settle, startKeys, startRows, knownAfter}
 use Rattle.spy.specs.Made.{writeMarks}

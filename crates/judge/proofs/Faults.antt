@@ -10,7 +10,7 @@ use lib.ListN.{length}
 use denote.Ref.{RefT, now}
 use borrow.Author.Tests.{lt-ltb, le-ltb}
 use Rattle.trace.specs.File.{eventLimit, eventsOf}
-use Rattle.trace.specs.Rows.{choose}
+use Rattle.laws.specs.Choose.{choose}
 use Rattle.trace.specs.Refusal as table
 use Rattle.trace.specs.Refusal.{numberOf, placeOf, Wrong, Told}
 use Rattle.trace.specs.Reading.{reading}

@@ -14,7 +14,7 @@ use Rattle.trace.specs.Refusal.{Told}
 use Rattle.trace.specs.Reading.{reading}
 use Rattle.trace.specs.declared.Cause.{Cause}
 use Rattle.trace.specs.declared.Reading as declared
-use Rattle.trace.proofs.First.{lt-suc}
+use Rattle.laws.proofs.First.{lt-suc}
 use Rattle.trace.proofs.Told.{told-read}
 use Rattle.trace.proofs.Promised.{promises-read}
 use Rattle.walk.specs.Walk.{Walked, cleared, walkFile}

@@ -12,15 +12,15 @@ use Rattle.paper.specs.Message.{agent}
 use Rattle.paper.specs.Event.{event, trace}
 use Rattle.paper.specs.Rules.{Step, Fake, SpyKeys, ClientHello, ServerHello, Certificate, CertVerify, ClientFinished, ServerFinished, ClientAccepts, ServerAccepts, ClientResume, ServerResume, Oops}
 use Rattle.trace.specs.File.{eventsOf}
-use Rattle.trace.specs.Rows.{choose}
+use Rattle.laws.specs.Choose.{choose}
 use Rattle.trace.specs.Kinds.{rowAt}
 use Rattle.trace.specs.Reading.{reading}
 use Rattle.trace.specs.Promises.{Promised}
 use Rattle.trace.specs.declared.Row.{Row}
 use Rattle.trace.specs.declared.Row.the-variants.{Agent, Number, Nonce, Prf, PublicKey, PrivateKey, SessionKey, Hash, Crypt, Pair}
 use Rattle.trace.specs.declared.Reading.the-variants.{Readable}
-use Rattle.trace.proofs.First.{bool-cases}
-use Rattle.trace.proofs.Both.{both4, refuted}
+use Rattle.laws.proofs.First.{bool-cases}
+use Rattle.laws.proofs.Both.{both4, refuted}
 use Rattle.trace.proofs.Promised.{promises-read}
 use Rattle.closure.specs.Closure.{knownAfter}
 use Rattle.used.specs.Marking.{usedAfter}

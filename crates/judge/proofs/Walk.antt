@@ -17,7 +17,7 @@ use Rattle.paper.specs.Rules.{Exchange, ClientKeyExch}
 use Rattle.paper.specs.Generated.{Nil, step, exchange}
 use Rattle.trace.specs.File.{eventsOf}
 use Rattle.trace.specs.Meaning.{beginning, bad}
-use Rattle.trace.proofs.First.{bool-cases, lt-suc}
+use Rattle.laws.proofs.First.{bool-cases, lt-suc}
 use Rattle.walk.specs.Walk.{Walked, walkedTo, walk}
 use Rattle.judge.specs.Judged.{AcceptedTo, Fits, Exchanged, RuleAt, lowest, note, message}
 use Rattle.judge.proofs.One.{not-both}

@@ -13,7 +13,7 @@ ghost use mathlib.Core.Path.{_≡_};
 ghost use Prim.Native.Nat.{_≤_};
 ghost use lib.ListN.{length};
 ghost use Rattle.trace.specs.File.{rowLimit, rowsOf, eventsOf};
-ghost use Rattle.trace.specs.Rows.{choose};
+ghost use Rattle.laws.specs.Choose.{choose};
 ghost use Rattle.trace.specs.Tests.{headerOf, wrongContents};
 ghost use Rattle.trace.specs.Reading.{readItems, reading};
 ghost use Rattle.trace.specs.declared.Cause.the-variants.{WrongContents};

@@ -13,14 +13,14 @@ use mathlib.Core.Logic.{⊎-elim}
 use lib.Seq.{getD-set-same, getD-set-other}
 use borrow.Author.Tests.{le-ltb}
 use Rattle.trace.specs.File.{rowLimit}
-use Rattle.trace.specs.First.{first}
+use Rattle.laws.specs.First.{first}
 use Rattle.trace.specs.Rows.{fieldsAt}
 use Rattle.trace.specs.Tests.{sameFields, repeatedRow}
 use Rattle.repeats.specs.Chain.{bucketOf, tagOf, Tagged, Down, Searched, Reach, here, further, fewRows}
 use Rattle.trace.specs.declared.rows.Fields.{Fields}
-use Rattle.trace.proofs.First.{lt-suc, any-none, any-some}
-use Rattle.trace.proofs.Zeros.{zeros}
-use Rattle.trace.proofs.Both.{refuted}
+use Rattle.laws.proofs.First.{lt-suc, any-none, any-some}
+use Rattle.laws.proofs.Zeros.{zeros}
+use Rattle.laws.proofs.Both.{refuted}
 use Rattle.trace.proofs.Same.{same-equal, equal-same}
 
 pub reach-end : (nexts : List ℕ) (link s : ℕ) → link ≡ 0 → Reach nexts link s → ⊥

@@ -7,7 +7,8 @@ use mathlib.Core.Path.{_≡_}
 use lib.Dec.{ltb}
 use lib.ListN.{getD}
 use Rattle.trace.specs.File.{rowLimit}
-use Rattle.trace.specs.Rows.{choose, fieldsAt}
+use Rattle.laws.specs.Choose.{choose}
+use Rattle.trace.specs.Rows.{fieldsAt}
 use Rattle.trace.specs.declared.rows.Fields.{Fields}
 
 abbrev pub buckets : ℕ

@@ -9,7 +9,7 @@ ghost use lib.ListN.{getD};
 ghost use Rattle.trace.specs.File.{rowLimit};
 ghost use Rattle.trace.specs.Rows.{fieldsAt};
 ghost use Rattle.trace.specs.Tests.{repeatedRow, sameFields};
-ghost use Rattle.trace.specs.First.{first};
+ghost use Rattle.laws.specs.First.{first};
 ghost use Rattle.repeats.specs.Chain.{buckets, bucketOf, tagOf, Tagged, Down, Searched, fewRows};
 
 const BUCKETS: usize = 1024;

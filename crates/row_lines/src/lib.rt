@@ -5,7 +5,7 @@ use trace::rows::fields_at;
 use trace::rows::kind_at;
 ghost use mathlib.Core.Path.{_≡_};
 ghost use Rattle.trace.specs.Tests.{agentLine, valueLine, nonceBelow, keyBelow, threeNonces, nonceLine, keyLine, hashLine, cryptLine, pairLine, rowFits, badRow};
-ghost use Rattle.trace.specs.First.{first};
+ghost use Rattle.laws.specs.First.{first};
 
 fn agent_line(f: Fields) -> bool
     ensures { λ b. ⌜ b ≡ agentLine f ⌝ }

@@ -13,7 +13,7 @@ use Rattle.trace.specs.File.{eventsOf}
 use Rattle.trace.specs.Events.{eventAt}
 use Rattle.trace.specs.Meaning.{message, eventMeant, beginning, bad}
 use Rattle.trace.specs.Promises.{Promised}
-use Rattle.trace.proofs.Both.{both, both3}
+use Rattle.laws.proofs.Both.{both, both3}
 use Rattle.forms.specs.Kinds.{cryptOf}
 use Rattle.forms.specs.Forms.{keptOf, verifiedOf}
 use Rattle.forms.proofs.Flags.{both5, both6}

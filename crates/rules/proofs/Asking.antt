@@ -11,8 +11,8 @@ use borrow.Author.Tests.{ltb-true, lt-ltb, le-ltb, le-leb, lt-leb}
 use lib.ListN.{set}
 use Rattle.trace.specs.File.{rowLimit}
 use Rattle.trace.specs.Kinds.{rowAt}
-use Rattle.trace.proofs.Both.{or-true}
-use Rattle.trace.proofs.First.{lt-suc}
+use Rattle.laws.proofs.Both.{or-true}
+use Rattle.laws.proofs.First.{lt-suc}
 use Rattle.closure.specs.Closure.{rowMarked}
 use Rattle.rules.specs.declared.synth.Parts.{Parts}
 use Rattle.rules.specs.Making.{Made, told, partsOf, madeBelow, madeLast, makeThen, makeBoth, makeWith, makeRow}

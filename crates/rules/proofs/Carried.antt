@@ -11,7 +11,7 @@ use lib.ListN.{set}
 use lib.Seq.{getD-set-other}
 use borrow.Author.Tests.{ltb-true, leb-true, le-leb}
 use Rattle.trace.specs.File.{rowLimit}
-use Rattle.trace.specs.Rows.{choose}
+use Rattle.laws.specs.Choose.{choose}
 use Rattle.trace.specs.Kinds.{rowAt}
 use Rattle.earlier.specs.declared.Heard.{Heard}
 use Rattle.closure.specs.Closure.{rowMarked, zeros}

@@ -10,13 +10,13 @@ use lib.Dec.{eqb, ltb, leb}
 use lib.ListN.{length, getD, set}
 use lib.Seq.{getD-set-same, getD-set-other, set-out}
 use Rattle.trace.specs.File.{rowLimit, rowsOf, compromisedIn}
-use Rattle.trace.specs.Rows.{choose}
+use Rattle.laws.specs.Choose.{choose}
 use Rattle.trace.specs.Kinds.{rowAt}
 use Rattle.trace.specs.declared.Row.{Row}
 use Rattle.trace.specs.declared.Row.the-variants.{Agent, Number, Nonce, Prf, PublicKey, PrivateKey, SessionKey, Hash, Crypt, Pair}
 use Rattle.trace.specs.declared.Event.{Event}
 use Rattle.trace.specs.declared.Event.the-variants.{Says, Notes}
-use Rattle.trace.proofs.Both.{both}
+use Rattle.laws.proofs.Both.{both}
 use Rattle.spy.specs.Made.{made, makes, writeMarks}
 use Rattle.closure.specs.Closure.{State, stateOf, rowMarked, sidesOf, below, bothSides, learnWith, learnRow, reopens, reopenRow, upRows, downRows, passRows, settle, seeRow, seeEvent}
 use Rattle.rules.specs.Tests.{canMake}

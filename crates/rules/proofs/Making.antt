@@ -13,12 +13,12 @@ use lib.ListN.{length, getD, length-replicate, getD-replicate, List·getD-eq-def
 use lib.Seq.{getD-set-same, getD-set-other}
 use borrow.Author.Tests.{ltb-true, lt-ltb, le-ltb}
 use Rattle.trace.specs.File.{rowLimit}
-use Rattle.trace.specs.Rows.{choose}
+use Rattle.laws.specs.Choose.{choose}
 use Rattle.trace.specs.Kinds.{rowAt}
 use Rattle.trace.specs.declared.Row.{Row}
 use Rattle.trace.specs.declared.Row.the-variants.{Agent, Number, Nonce, Prf, PublicKey, PrivateKey, SessionKey, Hash, Crypt, Pair}
-use Rattle.trace.proofs.Both.{both}
-use Rattle.trace.proofs.First.{lt-suc}
+use Rattle.laws.proofs.Both.{both}
+use Rattle.laws.proofs.First.{lt-suc}
 use Rattle.closure.specs.Closure.{rowMarked, zeros}
 use Rattle.spy.specs.Made.{made, makes, markOf, writeMarks}
 use Rattle.spy.proofs.Sweep.{marks-length}

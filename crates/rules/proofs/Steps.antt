@@ -15,7 +15,7 @@ use Rattle.trace.specs.File.{rowsOf, eventsOf}
 use Rattle.trace.specs.Events.{eventAt}
 use Rattle.trace.specs.Meaning.{message, eventMeant, beginning, bad}
 use Rattle.trace.specs.Promises.{Promised}
-use Rattle.trace.proofs.Both.{both, both3, both4, refuted}
+use Rattle.laws.proofs.Both.{both, both3, both4, refuted}
 use Rattle.closure.specs.Closure.{rowMarked}
 use Rattle.closure.proofs.Marks.{Marked}
 use Rattle.forms.specs.Kinds.{publicOf, sessionOf, isPlain}

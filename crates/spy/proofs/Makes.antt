@@ -17,8 +17,8 @@ use Rattle.trace.specs.Kinds.{rowAt}
 use Rattle.trace.specs.Meaning.{message}
 use Rattle.trace.specs.Promises.{Promised, Keeps, hash, crypt, pair, Unfolds, asAgent, asNumber, asNonce, asPrf, asPublic, asPrivate, asSession, asHash, asCrypt, asPair}
 use Rattle.trace.specs.declared.Row.{Row}
-use Rattle.trace.proofs.First.{bool-cases, lt-suc}
-use Rattle.trace.proofs.Both.{both}
+use Rattle.laws.proofs.First.{bool-cases, lt-suc}
+use Rattle.laws.proofs.Both.{both}
 use Rattle.closure.specs.Closure.{rowMarked}
 use Rattle.spy.specs.Made.{made, makes, markOf, writeMarks}
 use Rattle.spy.specs.Knowledge as question

@@ -15,7 +15,7 @@ use Rattle.paper.specs.Closures.{Within}
 use Rattle.paper.proofs.Event.{Spies-beginning}
 use Rattle.paper.proofs.Closures.{analz-mono, synth-mono}
 use Rattle.trace.specs.File.{rowsOf, eventsOf, compromisedIn}
-use Rattle.trace.specs.Rows.{choose}
+use Rattle.laws.specs.Choose.{choose}
 use Rattle.trace.specs.Events.{eventAt}
 use Rattle.trace.specs.Refusal.{Told}
 use Rattle.trace.specs.Meaning.{messages, message, eventMeant, beginning, bad}
@@ -25,7 +25,7 @@ use Rattle.trace.specs.declared.RowNo.{RowNo}
 use Rattle.trace.specs.declared.Event.{Event}
 use Rattle.trace.specs.declared.Event.the-variants.{Says, Notes}
 use Rattle.trace.specs.declared.Reading.the-variants.{Readable}
-use Rattle.trace.proofs.First.{bool-cases, lt-suc}
+use Rattle.laws.proofs.First.{bool-cases, lt-suc}
 use Rattle.trace.proofs.Promised.{promises}
 use Rattle.spy.specs.Knowledge.{Mark, analysed, made, neither, Marks, Knows, written, seenIn}
 use Rattle.spy.specs.Promises.{OnlyGrows, struckOut, eventsLeft, SameRows, SeenDecides}

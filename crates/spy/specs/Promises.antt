@@ -6,7 +6,8 @@ use mathlib.Core.Logic.{_↔_}
 use mathlib.Core.Path.{_≡_}
 use lib.ListN.{length, getD}
 use Rattle.trace.specs.File.{rowsOf, eventsOf, compromisedIn}
-use Rattle.trace.specs.Rows.{choose, fieldsAt}
+use Rattle.laws.specs.Choose.{choose}
+use Rattle.trace.specs.Rows.{fieldsAt}
 use Rattle.trace.specs.Events.{eventAt}
 use Rattle.trace.specs.Refusal.{numberOf, placeOf, Told}
 use Rattle.trace.specs.declared.Cause.{Cause}

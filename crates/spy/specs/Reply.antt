@@ -5,7 +5,7 @@ use mathlib.Core.List.{List}
 use lib.Dec.{ltb}
 use lib.ListN.{length}
 use Rattle.trace.specs.File.{rowsOf, eventsOf}
-use Rattle.trace.specs.Rows.{choose}
+use Rattle.laws.specs.Choose.{choose}
 use Rattle.trace.specs.declared.Cause.the-variants.{ShortBuffer, TooManyEvents}
 use Rattle.closure.specs.Closure.{knownAfter}
 use Rattle.spy.specs.Made.{writeMarks}

@@ -13,7 +13,7 @@ use Rattle.trace.specs.File.{word, rowLimit, eventLimit, rowsAt, rowsOf,
 use Rattle.trace.specs.Refusal.{Wrong, version, reserved, spy, authority, rows, events, rows-offset, events-offset, size}
 use Rattle.trace.specs.Tests.{headerOf, wrongVersion, wrongSet, wrongContents}
 use Rattle.trace.specs.declared.Cause.the-variants.{WrongVersion, WrongSet, WrongContents}
-use Rattle.trace.proofs.Both.{either, or-false, or-false-right}
+use Rattle.laws.proofs.Both.{either, or-false, or-false-right}
 
 module _ (file : List ℕ) where
   pub is-version : wrongVersion (headerOf file) ≡ true → Wrong file WrongVersion

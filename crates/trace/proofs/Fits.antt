@@ -11,7 +11,7 @@ use Rattle.trace.specs.File.{agentLimit}
 use Rattle.trace.specs.Rows.{fieldsAt, kindAt, KeepsLine, Refers, Line, agent, number, nonce, prf, public, private, session, hash, crypt, pair}
 use Rattle.trace.specs.Tests.{nonceBelow, keyBelow, threeNonces, agentLine, valueLine, nonceLine, keyLine, hashLine, cryptLine, pairLine, lineOf, rowFits}
 use Rattle.trace.specs.declared.rows.Fields.{Fields}
-use Rattle.trace.proofs.Both.{both, both3, both4}
+use Rattle.laws.proofs.Both.{both, both3, both4}
 use Rattle.trace.proofs.Lines.{line-agent, line-number, line-nonce, line-key, line-hash, line-crypt, line-pair, line-none}
 
 -- the kinds, and the numbers above them

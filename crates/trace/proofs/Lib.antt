@@ -1,6 +1,3 @@
-pub mod First
-pub mod Zeros
-pub mod Both
 pub mod Causes
 pub mod Lines
 pub mod Same

@@ -22,7 +22,7 @@ use Rattle.trace.specs.declared.Role.{Role}
 use Rattle.trace.specs.declared.Role.the-variants.{Client, Server}
 use Rattle.trace.specs.declared.Row.{Row}
 use Rattle.trace.specs.declared.Row.the-variants.{Agent, Number, Nonce, Prf, PublicKey, PrivateKey, SessionKey, Hash, Crypt, Pair}
-use Rattle.trace.proofs.First.{lt-suc, bool-cases}
+use Rattle.laws.proofs.First.{lt-suc, bool-cases}
 use Rattle.trace.proofs.Fits as kinds
 use Rattle.trace.proofs.Fits.{Kind, kindOf}
 

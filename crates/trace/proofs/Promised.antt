@@ -17,7 +17,7 @@ use Rattle.trace.specs.Events as table
 use Rattle.trace.specs.Promises.{Exists, says, notes, Promised, Promises, KeptApart}
 use Rattle.trace.specs.declared.Cause.{Cause}
 use Rattle.trace.specs.declared.Reading.the-variants.{Readable}
-use Rattle.trace.proofs.First.{bool-cases}
+use Rattle.laws.proofs.First.{bool-cases}
 use Rattle.trace.proofs.Tested.{tested, six}
 use Rattle.trace.proofs.Told.{told-read, lowest-none, rows-decided, repeats-decided, events-decided, few-rows, few-events}
 use Rattle.trace.proofs.Keeps.{fieldsOf, row-keeps, row-shows}

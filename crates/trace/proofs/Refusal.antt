@@ -9,7 +9,7 @@ use borrow.Author.Tests.{lt-ltb, le-ltb}
 use Rattle.trace.specs.File.{rowsAt, rowsOf, eventsOf}
 use Rattle.trace.specs.Tests.{headerOf, wrongVersion, wrongSet, wrongContents, badRow, repeatedRow, badEvent}
 use Rattle.trace.specs.Reading.{readItems, reading}
-use Rattle.trace.specs.First.{first}
+use Rattle.laws.specs.First.{first}
 use Rattle.trace.specs.declared.Cause.the-variants.{TooShort, WrongVersion, WrongSet, WrongContents, BadRow, RepeatedRow, BadEvent}
 use Rattle.trace.specs.declared.Reading.the-variants.{Refused, Readable}
 

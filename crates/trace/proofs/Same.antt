@@ -6,7 +6,7 @@ use lib.Dec.{eqb}
 use borrow.Author.Tests.{eqb-true, eq-eqb}
 use Rattle.trace.specs.Tests.{sameFields}
 use Rattle.trace.specs.declared.rows.Fields.{Fields}
-use Rattle.trace.proofs.Both.{both4, both}
+use Rattle.laws.proofs.Both.{both4, both}
 
 pub same-equal : (f g : Fields) → sameFields f g ≡ true → f ≡ g
 same-equal f g e =

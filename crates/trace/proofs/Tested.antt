@@ -17,8 +17,8 @@ use Rattle.trace.specs.Events.{partsAt, EventLine, says, notes, KeepsEve
 use Rattle.trace.specs.Tests.{eventFits}
 use Rattle.trace.specs.Promises.{Tested}
 use Rattle.trace.specs.declared.events.Parts.{Parts}
-use Rattle.trace.proofs.First.{bool-cases}
-use Rattle.trace.proofs.Both.{both, both4}
+use Rattle.laws.proofs.First.{bool-cases}
+use Rattle.laws.proofs.Both.{both, both4}
 use Rattle.trace.proofs.Contents.{is-version, not-version, is-set, not-set, is-contents, not-contents}
 use Rattle.trace.proofs.Same.{same-equal, equal-same}
 use Rattle.trace.proofs.Fits.{fits-keeps, keeps-fits}

@@ -13,7 +13,7 @@ use Rattle.trace.specs.File.{rowLimit, eventLimit, rowsAt, rowsOf, event
 use Rattle.trace.specs.Rows.{KeepsLine}
 use Rattle.trace.specs.Events.{KeepsEventLine}
 use Rattle.trace.specs.Refusal.{numberOf, placeOf, Lowest, Repeated, Wrong, short, version, reserved, spy, authority, rows, events, rows-offset, events-offset, size, row, repeated, event, Told, refused, readable}
-use Rattle.trace.specs.First.{first}
+use Rattle.laws.specs.First.{first}
 use Rattle.trace.specs.Tests.{headerOf, wrongVersion, wrongSet, wrongContents, badRow, repeatedRow, badEvent}
 use Rattle.trace.specs.Reading.{readItems, reading}
 use Rattle.trace.specs.Promises.{Refusals}
@@ -21,7 +21,7 @@ use Rattle.trace.specs.declared.Cause.{Cause}
 use Rattle.trace.specs.declared.Cause.the-variants.{TooShort, WrongContents, BadRow, RepeatedRow, BadEvent}
 use Rattle.trace.specs.declared.Reading.{Reading}
 use Rattle.trace.specs.declared.Reading.the-variants.{Refused, Readable}
-use Rattle.trace.proofs.First.{find, first-found, first-none, any-some, any-inv, bool-cases, lt-suc}
+use Rattle.laws.proofs.First.{find, first-found, first-none, any-some, any-inv, bool-cases, lt-suc}
 use Rattle.trace.proofs.Causes.{causeOf, cause-numbered, one-cause, number-range}
 use Rattle.trace.proofs.Contents.{is-version, not-version, is-set, not-set, is-contents, not-contents}
 use Rattle.trace.proofs.Tested.{tested}

@@ -2,7 +2,8 @@
 use Prim.Native.Nat.{ℕ}
 use mathlib.Core.List.{List}
 use lib.Dec.{eqb}
-use Rattle.trace.specs.Rows.{choose, fieldsAt}
+use Rattle.laws.specs.Choose.{choose}
+use Rattle.trace.specs.Rows.{fieldsAt}
 use Rattle.trace.specs.declared.rows.Fields.{Fields}
 use Rattle.trace.specs.declared.Role.{Role}
 use Rattle.trace.specs.declared.Role.the-variants.{Client, Server}

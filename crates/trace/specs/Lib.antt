@@ -5,7 +5,6 @@ pub mod Meaning
 pub mod Refusal
 pub mod Part
 pub mod Kinds
-pub mod First
 pub mod Tests
 pub mod Reading
 pub mod Spans

@@ -8,7 +8,8 @@ use lib.ListN.{getD}
 use Rattle.paper.specs.Message.{agent, role, ClientRole, ServerRole, nonce, plain, PRF, key, pubK, priK, sessionK, msg, Agent, Number, Nonce, Key, Hash, Crypt, Pair}
 use Rattle.paper.specs.Event as paper
 use Rattle.trace.specs.File.{compromisedIn}
-use Rattle.trace.specs.Rows.{choose, fieldsAt}
+use Rattle.laws.specs.Choose.{choose}
+use Rattle.trace.specs.Rows.{fieldsAt}
 use Rattle.trace.specs.Events.{eventAt}
 use Rattle.trace.specs.declared.rows.Fields.{Fields}
 use Rattle.trace.specs.declared.Event.{Event}

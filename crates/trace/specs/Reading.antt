@@ -4,8 +4,8 @@ use mathlib.Core.List.{List}
 use lib.Dec.{ltb}
 use lib.ListN.{length}
 use Rattle.trace.specs.File.{rowsAt, rowsOf, eventsOf}
-use Rattle.trace.specs.Rows.{choose}
-use Rattle.trace.specs.First.{first}
+use Rattle.laws.specs.Choose.{choose}
+use Rattle.laws.specs.First.{first}
 use Rattle.trace.specs.Tests.{headerOf, wrongVersion, wrongSet, wrongContents, badRow, repeatedRow, badEvent}
 use Rattle.trace.specs.declared.Cause.the-variants.{TooShort, WrongVersion, WrongSet, WrongContents, BadRow, RepeatedRow, BadEvent}
 use Rattle.trace.specs.declared.Reading.{Reading}

@@ -1,14 +1,9 @@
 -- Rows: the table of kinds in document 01, "The trace file".
 use Prim.Native.Nat.{ℕ, _+_, _*_, _<_, _≤_}
-use mathlib.Core.Bool.{Bool, true, false}
 use mathlib.Core.List.{List}
 use mathlib.Core.Path.{_≡_}
 use Rattle.trace.specs.File.{byte, word, rowsAt, agentLimit}
 use Rattle.trace.specs.declared.rows.Fields.{Fields}
-
-abbrev pub choose : {A : Type 0} → Bool → A → A → A
-choose true a b = a
-choose false a b = b
 
 abbrev pub fieldsAt : List ℕ → ℕ → Fields
 fieldsAt file r =

@@ -6,7 +6,7 @@ use mathlib.Core.Path.{_≡_}
 use lib.Dec.{leb}
 use lib.ListN.{length}
 use Rattle.trace.specs.File.{rowsAt, rowLimit, eventLimit, eventsAt}
-use Rattle.trace.specs.Rows.{choose}
+use Rattle.laws.specs.Choose.{choose}
 use Rattle.trace.specs.Part.{nothing}
 use Rattle.trace.specs.Refusal.{numberOf, Told}
 use Rattle.trace.specs.declared.Span.{Span}

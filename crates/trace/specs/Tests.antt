@@ -4,9 +4,10 @@ use mathlib.Core.Bool.{Bool, false, _&&_, _||_, not}
 use mathlib.Core.List.{List}
 use lib.Dec.{eqb, ltb, leb}
 use Rattle.trace.specs.File.{word, rowLimit, eventLimit, agentLimit, rowsAt, compromisedIn}
-use Rattle.trace.specs.Rows.{choose, fieldsAt, kindAt}
+use Rattle.laws.specs.Choose.{choose}
+use Rattle.trace.specs.Rows.{fieldsAt, kindAt}
 use Rattle.trace.specs.Events.{partsAt}
-use Rattle.trace.specs.First.{any}
+use Rattle.laws.specs.First.{any}
 use Rattle.trace.specs.declared.header.Header.{Header}
 use Rattle.trace.specs.declared.rows.Fields.{Fields}
 use Rattle.trace.specs.declared.events.Parts.{Parts}

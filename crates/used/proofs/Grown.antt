@@ -14,7 +14,7 @@ use borrow.Author.Tests.{ltb-true, lt-ltb, lt-leb}
 use Rattle.trace.specs.File.{rowLimit}
 use Rattle.trace.specs.Kinds.{rowAt}
 use Rattle.trace.specs.declared.Row.{Row}
-use Rattle.trace.proofs.First.{bool-cases}
+use Rattle.laws.proofs.First.{bool-cases}
 use Rattle.closure.specs.Closure.{rowMarked}
 use Rattle.closure.proofs.Marks.{Marked, row-same, row-other, row-keep}
 use Rattle.used.specs.Marking.{partsOf, usedBelow, useWith, useRow}

@@ -9,7 +9,7 @@ use native.Mathlib.Numerals.{add-one}
 use lib.Dec.{ltb}
 use lib.ListN.{length, set, length-set}
 use borrow.Author.Tests.{lt-ltb, le-ltb, ltb-true}
-use Rattle.trace.specs.Rows.{choose}
+use Rattle.laws.specs.Choose.{choose}
 use Rattle.trace.specs.File.{rowLimit, eventLimit, agentLimit, rowsOf}
 use Rattle.trace.specs.Events.{eventAt}
 use Rattle.closure.specs.Closure.{keyRoom, seeEvent, startKeys, startRows, zeros}

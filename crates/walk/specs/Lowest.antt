@@ -3,7 +3,7 @@
 use Prim.Native.Nat.{ℕ, suc}
 use mathlib.Core.Bool.{Bool}
 use mathlib.Core.List.{List}
-use Rattle.trace.specs.Rows.{choose}
+use Rattle.laws.specs.Choose.{choose}
 use Rattle.closure.specs.Closure.{knownAfter}
 use Rattle.used.specs.Marking.{usedAfter}
 use Rattle.forms.specs.Kinds.{cryptOf}

@@ -5,7 +5,7 @@ use mathlib.Core.List.{List}
 use mathlib.Core.Path.{_≡_}
 use lib.Dec.{ltb}
 use lib.ListN.{set}
-use Rattle.trace.specs.Rows.{choose}
+use Rattle.laws.specs.Choose.{choose}
 use Rattle.closure.specs.Closure.{knownAfter}
 use Rattle.earlier.specs.Kept.{Boxed}
 use Rattle.used.specs.Marking.{usedAfter}

@@ -5,7 +5,7 @@ use mathlib.Core.List.{List}
 use lib.Dec.{ltb}
 use lib.ListN.{set}
 use Rattle.trace.specs.File.{eventLimit, eventsOf}
-use Rattle.trace.specs.Rows.{choose}
+use Rattle.laws.specs.Choose.{choose}
 use Rattle.walk.specs.Lowest.{ruleOf, exchangeOf}
 
 -- the events that were accepted, and the bytes

@@ -7,7 +7,7 @@ use native.Mathlib.Omega.{arith}
 use denote.Ref.{now}
 use borrow.Author.Count.{below-none, below-more}
 use borrow.Author.Needs.{needs}
-use Rattle.trace.proofs.First.{any-some, any-none}
+use Rattle.laws.proofs.First.{any-some, any-none}
 use Rattle.earlier.specs.Earlier.{heardAt}
 use Rattle.accepts.specs.Tests.{toldFinished}
 use Rattle.accepts.proofs.told_any.Statement.{statement}

@@ -6,7 +6,7 @@ use borrow.Author.Tests.{eqb-true}
 use borrow.Author.Needs.{needs}
 use Rattle.trace.specs.Events.{eventOf}
 use Rattle.trace.specs.declared.events.Parts.{Parts}
-use Rattle.trace.proofs.Both.{refuted}
+use Rattle.laws.proofs.Both.{refuted}
 use Rattle.earlier.specs.declared.Heard.{Heard}
 use Rattle.earlier.specs.Earlier.{heardIn}
 use Rattle.earlier.proofs.hear.Statement.{statement}

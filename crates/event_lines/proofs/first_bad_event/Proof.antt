@@ -9,7 +9,7 @@ use borrow.Author.Count.{below-none, below-more}
 use borrow.Author.Needs.{needs}
 use Rattle.trace.specs.declared.events.Parts.{Parts}
 use Rattle.trace.specs.Tests.{eventFits, badEvent}
-use Rattle.trace.proofs.First.{first-found, first-none}
+use Rattle.laws.proofs.First.{first-found, first-none}
 use Rattle.event_lines.proofs.first_bad_event.Statement.{statement}
 use Rattle.event_lines.proofs.first_bad_event.Tie as tie
 

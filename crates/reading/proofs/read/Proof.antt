@@ -8,7 +8,7 @@ use denote.Ref.{now}
 use lib.ListN.{length}
 use borrow.Author.Tests.{lt-ltb, le-ltb, ne-eqb, not-true, not-false}
 use Rattle.trace.specs.File.{rowsAt, rowsOf, eventsOf, compromisedIn}
-use Rattle.trace.specs.Rows.{choose}
+use Rattle.laws.specs.Choose.{choose}
 use Rattle.trace.specs.Tests.{headerOf, wrongVersion, wrongSet, wrongContents}
 use Rattle.trace.specs.Reading.{readItems, reading}
 use Rattle.trace.specs.declared.Cause.the-variants.{WrongContents}

@@ -13,7 +13,7 @@ use Rattle.trace.specs.Rows.{fieldsAt}
 use Rattle.trace.specs.Tests.{repeatedRow}
 use Rattle.repeats.specs.Chain.{bucketOf, tagOf, Tagged, Searched}
 use Rattle.trace.specs.declared.rows.Fields.{Fields}
-use Rattle.trace.proofs.First.{first-found, first-none}
+use Rattle.laws.proofs.First.{first-found, first-none}
 use Rattle.repeats.proofs.Chain.{Chained, chained-none, chained-more, not-repeated, is-repeated, tagged-none, tagged-fewer, tagged-more}
 use Rattle.repeats.proofs.first_repeat.Statement.{statement}
 use Rattle.repeats.proofs.first_repeat.Tie as tie

@@ -8,7 +8,7 @@ use denote.Ref.{now}
 use borrow.Author.Count.{below-none, below-more}
 use borrow.Author.Needs.{needs}
 use Rattle.trace.specs.Tests.{badRow}
-use Rattle.trace.proofs.First.{first-found, first-none}
+use Rattle.laws.proofs.First.{first-found, first-none}
 use Rattle.row_lines.proofs.first_bad_row.Statement.{statement}
 use Rattle.row_lines.proofs.first_bad_row.Tie as tie
 

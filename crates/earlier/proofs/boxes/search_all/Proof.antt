@@ -8,7 +8,7 @@ use denote.Ref.{now}
 use lib.ListN.{getD}
 use borrow.Author.Count.{below-none, below-more}
 use Rattle.trace.specs.File.{agentLimit}
-use Rattle.trace.proofs.First.{any-some, any-none}
+use Rattle.laws.proofs.First.{any-some, any-none}
 use Rattle.earlier.specs.Boxes.{chainFrom, some, fitsAt}
 use Rattle.earlier.proofs.boxes.search_all.Statement.{statement}
 use Rattle.earlier.proofs.boxes.search_all.Tie as tie

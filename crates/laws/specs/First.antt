@@ -2,7 +2,7 @@
 use Prim.Native.Nat.{ℕ, zero, suc}
 use mathlib.Core.Bool.{Bool, false, _||_}
 use lib.Dec.{ltb}
-use Rattle.trace.specs.Rows.{choose}
+use Rattle.laws.specs.Choose.{choose}
 
 unfoldable pub first : (ℕ → Bool) → ℕ → ℕ
 first p zero = zero

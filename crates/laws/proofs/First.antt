@@ -8,8 +8,8 @@ use mathlib.Core.Logic.{_⊎_, inl, inr, ⊎-elim}
 use mathlib.Core.Path.{_≡_, refl, sym, _∙_}
 use lib.Dec.{ltb}
 use borrow.Author.Tests.{lt-ltb, le-ltb}
-use Rattle.trace.specs.Rows.{choose}
-use Rattle.trace.specs.First.{first, any}
+use Rattle.laws.specs.Choose.{choose}
+use Rattle.laws.specs.First.{first, any}
 
 pub lt-suc : (i n : ℕ) → i < suc n → (i < n) ⊎ (i ≡ n)
 lt-suc i n h = go (decLt i n)

@@ -1,0 +1,1 @@
+// General laws: no function stands here.
