@@ -15,10 +15,6 @@ pub data Case : Type 0 where
   verdict : (file : List ℕ) → Verdict → (rules : List ℕ) → Case
   knowledge : (file : List ℕ) (n : ℕ) (marks : List ℕ) → Case
 
-abbrev pub fileOf : Case → List ℕ
-fileOf (verdict file v rules) = file
-fileOf (knowledge file n marks) = file
-
 -- the buffer has one byte more than the answer, which keeps its content
 abbrev pub buffer : ℕ → List ℕ
 buffer n = replicate (suc n) 255

@@ -1,4 +1,4 @@
--- What `lineOf` and `rowOf` are at each kind: the tests before it fail, and its own passes.
+-- What `lineOf` is at each kind: the tests before it fail, and its own passes.
 -- Assumes nothing.
 use Prim.Native.Nat.{ℕ, _≤_}
 use mathlib.Core.Bool.{false}
@@ -6,10 +6,8 @@ use mathlib.Core.List.{List}
 use mathlib.Core.Path.{_≡_}
 use native.Mathlib.Omega.{arith}
 use borrow.Author.Tests.{ne-eqb, le-leb, lt-leb}
-use Rattle.trace.specs.Kinds.{roleOf, rowOf}
 use Rattle.trace.specs.Tests.{agentLine, valueLine, nonceLine, keyLine, hashLine, cryptLine, pairLine, lineOf}
 use Rattle.trace.specs.declared.rows.Fields.{Fields}
-use Rattle.trace.specs.declared.Row.the-variants.{Agent, Number, Nonce, Prf, PublicKey, PrivateKey, SessionKey, Hash, Crypt, Pair}
 
 module _ (file : List ℕ) (r : ℕ) (f : Fields) where
   pub line-agent : f .kind ≡ 0 → lineOf file r f ≡ agentLine f
@@ -54,44 +52,3 @@ module _ (file : List ℕ) (r : ℕ) (f : Fields) where
         ne-eqb (f .kind) 8 n8,
         ne-eqb (f .kind) 9 n9,
       )
-
-module _ (f : Fields) where
-  pub row-agent : f .kind ≡ 0 → rowOf f ≡ Agent (record { 0 = f .first })
-  unfolding rowOf
-  row-agent e = rw e
-
-  pub row-number : f .kind ≡ 1 → rowOf f ≡ Number (record { 0 = f .first })
-  unfolding rowOf
-  row-number e = rw e
-
-  pub row-nonce : f .kind ≡ 2 → rowOf f ≡ Nonce (record { 0 = f .first })
-  unfolding rowOf
-  row-nonce e = rw e
-
-  pub row-prf : f .kind ≡ 3 → rowOf f ≡ Prf (record { 0 = f .first }) (record { 0 = f .second }) (record { 0 = f .third })
-  unfolding rowOf
-  row-prf e = rw e
-
-  pub row-public : f .kind ≡ 4 → rowOf f ≡ PublicKey (record { 0 = f .first })
-  unfolding rowOf
-  row-public e = rw e
-
-  pub row-private : f .kind ≡ 5 → rowOf f ≡ PrivateKey (record { 0 = f .first })
-  unfolding rowOf
-  row-private e = rw e
-
-  pub row-session : f .kind ≡ 6 → rowOf f ≡ SessionKey (roleOf (f .role)) (record { 0 = f .first }) (record { 0 = f .second }) (record { 0 = f .third })
-  unfolding rowOf
-  row-session e = rw e
-
-  pub row-hash : f .kind ≡ 7 → rowOf f ≡ Hash (record { 0 = f .first })
-  unfolding rowOf
-  row-hash e = rw e
-
-  pub row-crypt : f .kind ≡ 8 → rowOf f ≡ Crypt (record { 0 = f .first }) (record { 0 = f .second })
-  unfolding rowOf
-  row-crypt e = rw e
-
-  pub row-pair : f .kind ≡ 9 → rowOf f ≡ Pair (record { 0 = f .first }) (record { 0 = f .second })
-  unfolding rowOf
-  row-pair e = rw e
