@@ -1,4 +1,6 @@
 // A session that is accepted, over rows: rules 10 and 11.
+#![tactic(auto)]
+
 ghost use Rattle.std.specs.Prelude.{◌≡◌, not, ◌&&◌, eqb};
 ghost use Rattle.laws.specs.First.{any};
 ghost use Rattle.closure.specs.Closure.{mark_row};

@@ -1,4 +1,6 @@
 // The bench's small program: judges the trace on standard input, and prints the verdict.
+#![tactic(auto)]
+
 use libc::{STDIN_FILENO, STDOUT_FILENO};
 use report::TEXT_ROOM;
 use trace::limits::LONGEST_FILE;

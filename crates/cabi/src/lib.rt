@@ -1,4 +1,6 @@
 // The questions for C and other languages: each reply is one number, which include/mirzhelo.h documents.
+#![tactic(auto)]
+
 ghost use Rattle.std.specs.Prelude.{◌≡◌};
 ghost use Rattle.cabi.specs.Codes.{refusal_code, verdict_code, answer_code};
 ghost use Rattle.cabi.specs.Coded.{VerdictCoded, AnswerCoded, FaultCoded};

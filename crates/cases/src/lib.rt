@@ -1,4 +1,6 @@
 // Files for the test programs: the sample of document 01, and a file with a byte changed.
+#![tactic(auto)]
+
 ghost use Rattle.std.specs.Prelude.{◌≡◌, ◌%◌, set};
 ghost use Rattle.cases.specs.Room.{sample_room};
 

@@ -2,6 +2,8 @@
 //
 // The state is two arrays: a mark for each analysed row, and one for each key that is known, public
 // keys at 0 to 63 and private ones at 64 to 127.
+#![tactic(auto)]
+
 ghost use Rattle.std.specs.Prelude.{true, ◌≡◌, suc, ◌+◌, ◌<◌, ◌≤◌};
 ghost use Rattle.trace.specs.File.{row_limit, agent_limit, rows_of, compromised_in};
 ghost use Rattle.laws.specs.Choose.{choose};
@@ -73,7 +75,7 @@ fn know_key(keys: &mut [u8; KEYS], at: usize)
 }
 
 // What a row opens into with the keys that are known: a side that is not below the row is none.
-#[derive(Drop)]
+#[derive(Clone, Copy)]
 struct Sides {
     left: u16,
     right: u16,

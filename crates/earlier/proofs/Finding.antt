@@ -10,7 +10,7 @@ use native.Mathlib.Nat.{mod-lt}
 use native.Mathlib.Decide.{dec_lt}
 use lib.Dec.{eqb, ltb}
 use lib.ListN.{get_or}
-use borrow.Author.Tests.{eqb-true, lt-ltb, le-ltb, not_true}
+use borrow.Author.Tests.{eqb-true, lt-ltb, le-ltb, not-true}
 use Rattle.trace.specs.File.{event_limit, agent_limit}
 use Rattle.laws.specs.First.{any}
 use Rattle.laws.proofs.First.{any_none, any_some, any_inv, bool_cases}
@@ -58,7 +58,7 @@ by_box h from to t =
 noted_box : (h : Heard) (from : ℕ) → noted_by h from ≡ true → box_of h ≡ notes_at + from % agent_limit
 noted_box h from t =
     let x = both (not h.says) (eqb h.from from) t in
-    rw (not_true h.says x.0, eqb-true h.from from x.1) refl
+    rw (not-true h.says x.0, eqb-true h.from from x.1) refl
 
 -- what fits lies in the box of what is wanted
 fits_box : (file : List ℕ) (wanted : Wanted) (h : Heard) → box_for wanted < box_count → fits_in file wanted h ≡ true → box_of h ≡ box_for wanted

@@ -5,7 +5,7 @@ use mathlib.Core.Bool.{Bool, true, false, not, ◌&&◌, true≢false}
 use mathlib.Core.List.{List}
 use mathlib.Core.Path.{◌≡◌, refl, sym, ◌∙◌, ap}
 use lib.Dec.{eqb, ltb}
-use borrow.Author.Tests.{lt-ltb, eq-eqb, ne_eqb, not_true}
+use borrow.Author.Tests.{lt-ltb, eq-eqb, ne_eqb, not-true}
 use Rattle.trace.specs.File.{event_limit}
 use Rattle.laws.specs.Choose.{choose}
 use Rattle.laws.proofs.Both.{both, both3, refuted, and_true, and_false}
@@ -241,7 +241,7 @@ module _ (file : List ℕ) (h : Heard) where
 
   noted : (wanted : Wanted) → not h.says ≡ true →
       fits_card (look_for wanted) (noted_with (kept_of file h.row) (remembered_of file h.row)) ≡ fits_card (look_for wanted) (card_of file h)
-  noted wanted t = rw (not_true h.says t) refl
+  noted wanted t = rw (not-true h.says t) refl
 
   to_says : (to : ℕ) → said_to h to ≡ true → h.says ≡ true
   to_says to t = (both h.says (eqb h.to to) t).0

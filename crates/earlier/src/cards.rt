@@ -24,7 +24,7 @@ const CERTIFICATE: u16 = 1;
 
 const SENT: u16 = 2;
 
-#[derive(Drop)]
+#[derive(Clone, Copy)]
 pub struct Card {
     pub shape: u16,
     pub first: u16,
@@ -42,7 +42,7 @@ const NO_CARD: Card = Card {
 };
 
 // What is asked of a part, if anything is.
-#[derive(Drop)]
+#[derive(Clone, Copy)]
 pub struct Part {
     pub asked: bool,
     pub is: u16,
@@ -54,7 +54,7 @@ const ANY: Part = Part {
 };
 
 // What is asked of a card.
-#[derive(Drop)]
+#[derive(Clone, Copy)]
 pub struct Look {
     pub shape: u16,
     pub first: Part,

@@ -1,4 +1,6 @@
 // One search over earlier events, for what any rule looks for.
+#![tactic(auto)]
+
 pub mod boxes;
 mod cards;
 
@@ -9,7 +11,7 @@ ghost use Rattle.earlier.specs.Boxes.{found};
 const SAYS: u16 = 0;
 
 // An event, flat: a note has no receiver.
-#[derive(Drop)]
+#[derive(Clone, Copy)]
 pub struct Heard {
     pub says: bool,
     pub from: u16,
@@ -18,7 +20,7 @@ pub struct Heard {
 }
 
 // What a rule looks for: agents by their numbers, other parts by their rows.
-#[derive(Drop)]
+#[derive(Clone, Copy)]
 pub enum Wanted {
     // Anyone said CH to B with this A and SID: B, A, SID.
     HelloFor(u16, u16, u16),

@@ -1,4 +1,6 @@
 // What each event has to hold: refusal 7.
+#![tactic(auto)]
+
 ghost use Rattle.std.specs.Prelude.{◌≡◌};
 ghost use Rattle.trace.specs.Tests.{event_fits, bad_event};
 ghost use Rattle.laws.specs.First.{first};

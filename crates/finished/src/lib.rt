@@ -1,4 +1,6 @@
 // The four Finished over rows: rules 8, 9, 12 and 13.
+#![tactic(auto)]
+
 ghost use Rattle.std.specs.Prelude.{◌≡◌, not, ◌&&◌, eqb};
 ghost use Rattle.earlier.specs.Boxes.{found};
 ghost use Rattle.finished.specs.Tests.{client_finished, server_finished, client_resume, server_resume};

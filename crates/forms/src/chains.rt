@@ -5,7 +5,7 @@ ghost use Rattle.forms.specs.Forms.{three_of, four_of};
 use crate::leaves;
 use crate::leaves::Three;
 
-#[derive(Drop)]
+#[derive(Clone, Copy)]
 pub struct Four {
     pub is: bool,
     pub first: u16,

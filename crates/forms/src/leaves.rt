@@ -26,20 +26,20 @@ const PAIR: u16 = 9;
 // The role of a client in a session key's row.
 const CLIENT: u16 = 0;
 
-#[derive(Drop)]
+#[derive(Clone, Copy)]
 pub struct One {
     pub is: bool,
     pub first: u16,
 }
 
-#[derive(Drop)]
+#[derive(Clone, Copy)]
 pub struct Two {
     pub is: bool,
     pub first: u16,
     pub second: u16,
 }
 
-#[derive(Drop)]
+#[derive(Clone, Copy)]
 pub struct Three {
     pub is: bool,
     pub first: u16,
@@ -47,7 +47,7 @@ pub struct Three {
     pub third: u16,
 }
 
-#[derive(Drop)]
+#[derive(Clone, Copy)]
 pub struct Session {
     pub is: bool,
     pub server: bool,

@@ -1,5 +1,7 @@
 // The shapes of messages that the rules name, read from rows: a flag, and fields that mean nothing
 // unless it is true.
+#![tactic(auto)]
+
 pub mod chains;
 pub mod leaves;
 
@@ -10,7 +12,7 @@ ghost use Rattle.laws.specs.Choose.{choose};
 // Document 01: agent 1 signs certificates.
 const AUTHORITY: u16 = 1;
 
-#[derive(Drop)]
+#[derive(Clone, Copy)]
 pub struct Hello {
     pub is: bool,
     pub agent: u16,
@@ -19,7 +21,7 @@ pub struct Hello {
     pub pa: u16,
 }
 
-#[derive(Drop)]
+#[derive(Clone, Copy)]
 pub struct Reply {
     pub is: bool,
     pub nb: u16,
@@ -27,21 +29,21 @@ pub struct Reply {
     pub pb: u16,
 }
 
-#[derive(Drop)]
+#[derive(Clone, Copy)]
 pub struct Kept {
     pub is: bool,
     pub agent: u16,
     pub secret: u16,
 }
 
-#[derive(Drop)]
+#[derive(Clone, Copy)]
 pub struct Signed {
     pub is: bool,
     pub agent: u16,
     pub key: u16,
 }
 
-#[derive(Drop)]
+#[derive(Clone, Copy)]
 pub struct Remembered {
     pub is: bool,
     pub sid: u16,
@@ -50,7 +52,7 @@ pub struct Remembered {
     pub m: u16,
 }
 
-#[derive(Drop)]
+#[derive(Clone, Copy)]
 pub struct Agreed {
     pub is: bool,
     pub sid: u16,
@@ -63,7 +65,7 @@ pub struct Agreed {
     pub b: u16,
 }
 
-#[derive(Drop)]
+#[derive(Clone, Copy)]
 pub struct Sealed {
     pub is: bool,
     pub server: bool,
@@ -78,7 +80,7 @@ pub struct Sealed {
     pub b: u16,
 }
 
-#[derive(Drop)]
+#[derive(Clone, Copy)]
 pub struct Derived {
     pub is: bool,
     pub m: u16,
@@ -86,7 +88,7 @@ pub struct Derived {
     pub nb: u16,
 }
 
-#[derive(Drop)]
+#[derive(Clone, Copy)]
 pub struct Verified {
     pub is: bool,
     pub signer: u16,

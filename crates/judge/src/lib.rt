@@ -1,4 +1,6 @@
 // The judge: whether the fourteen rules generate a trace.
+#![tactic(auto)]
+
 pub mod reply;
 
 ghost use Rattle.std.specs.Prelude.{◌≡◌};

@@ -2,7 +2,7 @@
 use trace::Cause;
 
 // Refused; or the length of the longest accepted beginning, short of all events or all of them.
-#[derive(Drop)]
+#[derive(Clone, Copy)]
 pub enum Verdict {
     Refused(Cause),
     Illegal(u16),

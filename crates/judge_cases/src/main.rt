@@ -1,4 +1,6 @@
 // The verdict and the part at fault: the cases of document 01 beside the sample, and the refusals in their order.
+#![tactic(auto)]
+
 use judge::reply::Verdict;
 use libc::STDOUT_FILENO;
 use trace::Cause;

@@ -1,1 +1,2 @@
 // General laws: no function stands here.
+#![tactic(auto)]

@@ -132,6 +132,8 @@ module _ (bad : agent → Type 0) (A B : agent) (p : ℕ) where
 
       Nil_safe : AllSafe []
       Nil_safe X (start (own c)) = c
+      Nil_safe X (said i) = elim i [ ]
+      Nil_safe X (noted c i) = elim i [ ]
 
       pub all_safe : {evs : trace} → Generated bad evs → Kept evs → AllSafe evs
       all_safe Nil k = Nil_safe

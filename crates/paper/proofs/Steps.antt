@@ -27,8 +27,10 @@ module _ {bad : agent → Type 0} where
 
   from : {evs : trace} → Generated bad evs → (A B : agent) (N : nonce) (evs₀ : trace) →
       Beginning (Notes A (secret_note B N) ∷ evs₀) evs → FromExchange bad A B N evs₀ evs
+  from Nil A B N evs₀ b = elim b [ ]
   from (step g s) A B N evs₀ whole = absurd (no_step s)
   from (step g s) A B N evs₀ (earlier b) = later (from g A B N evs₀ b)
+  from (exchange g x) A B N evs₀ whole = elim x [ ]
   from (exchange g (ClientKeyExch {K = K} fresh i)) A B N evs₀ (earlier whole) =
       record { K = K; behind = whole; before = g; rule6 = ClientKeyExch fresh i }
   from (exchange g x) A B N evs₀ (earlier (earlier b)) = later (later (from g A B N evs₀ b))

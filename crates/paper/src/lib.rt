@@ -1,1 +1,2 @@
 // The theory has no code: definitions and promises stand in specs/, their proofs in proofs/.
+#![tactic(auto)]

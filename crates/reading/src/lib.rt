@@ -1,4 +1,6 @@
 // Refusals 1 to 7: the lowest number applies.
+#![tactic(auto)]
+
 mod header;
 
 ghost use Rattle.std.specs.Prelude.{◌≡◌, ◌≤◌, length};

@@ -1,4 +1,6 @@
 // Rows that equal an earlier one: refusal 6.
+#![tactic(auto)]
+
 ghost use Rattle.std.specs.Prelude.{◌≡◌, ◌≤◌, ◌<◌, get_or};
 ghost use Rattle.trace.specs.File.{row_limit};
 ghost use Rattle.trace.specs.Rows.{fields_at};

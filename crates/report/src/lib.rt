@@ -1,4 +1,6 @@
 // The text that the bench's small program prints: a line for each event of the accepted beginning, then the verdict.
+#![tactic(auto)]
+
 ghost use Rattle.std.specs.Prelude.{◌≡◌, ◌∷◌, [], ◌+◌, ◌%◌, get_or};
 ghost use Rattle.report.specs.Page.{Put};
 ghost use Rattle.report.specs.Text.{digits, event_line, event_lines, last_line, text_of, Reported};

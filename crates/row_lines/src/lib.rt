@@ -1,4 +1,6 @@
 // What each row has to hold: refusal 5.
+#![tactic(auto)]
+
 ghost use Rattle.std.specs.Prelude.{◌≡◌};
 ghost use Rattle.trace.specs.Tests.{agent_line, value_line, nonce_below, key_below, three_nonces, nonce_line, key_line, hash_line, crypt_line, pair_line, row_fits, bad_row};
 ghost use Rattle.laws.specs.First.{first};

@@ -1,5 +1,7 @@
 // The rules of one message over rows: which of them put an event on those before it. Shapes are
 // tested before a search is run.
+#![tactic(auto)]
+
 mod synth;
 
 ghost use Rattle.std.specs.Prelude.{◌≡◌};

@@ -9,7 +9,7 @@ use trace::limits::{ROW_LIMIT, ROWS};
 use trace::{Row, RowNo};
 
 // What a row is made from: a leaf of nothing, where `can` is the answer, any other of two lower rows.
-#[derive(Drop)]
+#[derive(Clone, Copy)]
 struct Parts {
     leaf: bool,
     can: bool,

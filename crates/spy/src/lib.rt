@@ -1,4 +1,6 @@
 // The spy: what it knows and can make, after any number of events.
+#![tactic(auto)]
+
 pub mod made;
 
 ghost use Rattle.std.specs.Prelude.{◌≡◌};
@@ -11,7 +13,7 @@ use closure::KEYS;
 use trace::limits::ROW_LIMIT;
 use trace::{Cause, EventNo, Reading};
 
-#[derive(Drop)]
+#[derive(Clone, Copy)]
 pub enum Answer {
     Refused(Cause),
     Written,

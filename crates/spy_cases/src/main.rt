@@ -1,4 +1,6 @@
 // The knowledge question: the cases of document 01 beside the sample, the refusals in their order, and long chains.
+#![tactic(auto)]
+
 mod chains;
 mod files;
 

@@ -8,7 +8,7 @@ use mathlib.Core.Path.{◌≡◌, sym, ◌∙◌}
 use native.Mathlib.Omega.{arith}
 use lib.Dec.{eqb, ltb}
 use lib.ListN.{length}
-use borrow.Author.Tests.{eqb-true, eqb-false, ltb-true, ltb-false, not_true, not-false}
+use borrow.Author.Tests.{eqb-true, eqb-false, ltb-true, ltb-false, not-true, not-false}
 use Rattle.trace.specs.File.{word, row_limit, event_limit, rows_from, rows_of, events_of, events_from, compromised_in}
 use Rattle.trace.specs.Refusal.{Wrong, version, reserved, spy, authority, rows, events, rows_offset, events_offset, size}
 use Rattle.trace.specs.Tests.{header_of, wrong_version, wrong_set, wrong_contents}
@@ -18,14 +18,14 @@ use Rattle.laws.proofs.Both.{either, or_false, or_false_right}
 module _ (file : List ℕ) where
   pub is_version : wrong_version (header_of file) ≡ true → Wrong file WrongVersion
   is_version t =
-      ⊎_elim (λ a. version (eqb-false _ 1 (not_true _ a))) (λ a. reserved (eqb-false _ 0 (not_true _ a))) (either _ (not (eqb (word file 2) 0)) t)
+      ⊎_elim (λ a. version (eqb-false _ 1 (not-true _ a))) (λ a. reserved (eqb-false _ 0 (not-true _ a))) (either _ (not (eqb (word file 2) 0)) t)
 
   pub not_version : wrong_version (header_of file) ≡ false → ¬ Wrong file WrongVersion
   not_version f (version n) = n (eqb-true _ 1 (not-false _ (or_false _ (not (eqb (word file 2) 0)) f)))
   not_version f (reserved n) = n (eqb-true _ 0 (not-false _ (or_false_right (not (eqb (word file 0) 1)) _ f)))
 
   pub is_set : wrong_set file ≡ true → Wrong file WrongSet
-  is_set t = ⊎_elim (λ a. spy (λ b. true≢false (sym b ∙ not_true _ a))) authority (either _ (compromised_in file 1) t)
+  is_set t = ⊎_elim (λ a. spy (λ b. true≢false (sym b ∙ not-true _ a))) authority (either _ (compromised_in file 1) t)
 
   pub not_set : wrong_set file ≡ false → ¬ Wrong file WrongSet
   not_set f (spy n) = n (not-false _ (or_false _ (compromised_in file 1) f))
@@ -48,16 +48,16 @@ module _ (file : List ℕ) where
   e = not (eqb (length file) (events_from file + 8 * events_of file))
 
   pub is_contents : wrong_contents (header_of file) (length file) ≡ true → Wrong file WrongContents
-  is_contents t = ⊎_elim four (λ h. size (eqb-false _ _ (not_true _ h))) (either (a || b || c || d) e t)
+  is_contents t = ⊎_elim four (λ h. size (eqb-false _ _ (not-true _ h))) (either (a || b || c || d) e t)
     where
       two : (a || b) ≡ true → Wrong file WrongContents
       two h = ⊎_elim (λ g. rows (ltb-true _ _ g)) (λ g. events (ltb-true _ _ g)) (either a b h)
 
       three : (a || b || c) ≡ true → Wrong file WrongContents
-      three h = ⊎_elim two (λ g. rows_offset (eqb-false _ _ (not_true _ g))) (either (a || b) c h)
+      three h = ⊎_elim two (λ g. rows_offset (eqb-false _ _ (not-true _ g))) (either (a || b) c h)
 
       four : (a || b || c || d) ≡ true → Wrong file WrongContents
-      four h = ⊎_elim three (λ g. events_offset (eqb-false _ _ (not_true _ g))) (either (a || b || c) d h)
+      four h = ⊎_elim three (λ g. events_offset (eqb-false _ _ (not-true _ g))) (either (a || b || c) d h)
 
   pub not_contents : wrong_contents (header_of file) (length file) ≡ false → ¬ Wrong file WrongContents
   not_contents f = go

@@ -8,7 +8,7 @@ use mathlib.Core.Path.{◌≡◌, refl, sym, ◌∙◌, ap}
 use native.Mathlib.Omega.{arith}
 use native.Mathlib.Decide.{dec_lt, ℕ_discrete}
 use lib.ListN.{length}
-use borrow.Author.Tests.{not_true, not-false}
+use borrow.Author.Tests.{not-true, not-false}
 use Rattle.trace.specs.File.{row_limit, event_limit, rows_from, rows_of, events_of, events_from}
 use Rattle.trace.specs.Rows.{KeepsLine}
 use Rattle.trace.specs.Events.{KeepsEventLine}
@@ -69,7 +69,7 @@ module _ (file : List ℕ) where
   pub rows_decided : Decides (bad_row file) (Broken file)
   rows_decided =
       record {
-        holds = λ r t l. true≢false (sym ((tested.line file r).1 l) ∙ not_true _ t);
+        holds = λ r t l. true≢false (sym ((tested.line file r).1 l) ∙ not-true _ t);
         fails = λ r f n. n ((tested.line file r).0 (not-false _ f));
       }
 
@@ -83,7 +83,7 @@ module _ (file : List ℕ) where
   pub events_decided : Decides (bad_event file (rows_of file)) (Malformed file)
   events_decided =
       record {
-        holds = λ e t l. true≢false (sym ((tested.event file e).1 l) ∙ not_true _ t);
+        holds = λ e t l. true≢false (sym ((tested.event file e).1 l) ∙ not-true _ t);
         fails = λ e f n. n ((tested.event file e).0 (not-false _ f));
       }
 

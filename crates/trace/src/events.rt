@@ -6,7 +6,7 @@ use super::header::rows_of;
 use super::limits::{ITEM, ROWS_AT};
 use super::{AgentNo, Event, RowNo, bytes};
 
-#[derive(Drop)]
+#[derive(Clone, Copy)]
 pub struct Parts {
     pub kind: u16,
     pub sender: u16,

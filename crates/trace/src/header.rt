@@ -10,7 +10,7 @@ const SET_AT: usize = 4;
 
 const ROW_COUNT_AT: usize = 14;
 
-#[derive(Drop)]
+#[derive(Clone, Copy)]
 pub struct Header {
     pub version: u16,
     pub reserved: u16,

@@ -1,5 +1,7 @@
 // The trace file: its contents part, rows and events, what each is, and where it lies.
 // This is the only crate that reads a byte of it.
+#![tactic(auto)]
+
 mod bytes;
 pub mod events;
 pub mod header;
@@ -16,29 +18,29 @@ ghost use Rattle.trace.specs.Kinds.{row_at};
 ghost use Rattle.trace.specs.Spans.{event_span, fault_of, within};
 
 // Numbers of rows, events and agents are kept apart, and so are the values of Numbers and Nonces.
-#[derive(Drop)]
+#[derive(Clone, Copy)]
 pub struct RowNo(pub u16);
 
-#[derive(Drop)]
+#[derive(Clone, Copy)]
 pub struct EventNo(pub u16);
 
-#[derive(Drop)]
+#[derive(Clone, Copy)]
 pub struct AgentNo(pub u16);
 
-#[derive(Drop)]
+#[derive(Clone, Copy)]
 pub struct NumberValue(pub u16);
 
-#[derive(Drop)]
+#[derive(Clone, Copy)]
 pub struct NonceValue(pub u16);
 
-#[derive(Drop)]
+#[derive(Clone, Copy)]
 pub enum Role {
     Client,
     Server,
 }
 
 // A row by its kind; the references are row numbers.
-#[derive(Drop)]
+#[derive(Clone, Copy)]
 pub enum Row {
     Agent(AgentNo),
     Number(NumberValue),
@@ -52,14 +54,14 @@ pub enum Row {
     Pair(RowNo, RowNo),
 }
 
-#[derive(Drop)]
+#[derive(Clone, Copy)]
 pub enum Event {
     Says(AgentNo, AgentNo, RowNo),
     Notes(AgentNo, RowNo),
 }
 
 // Why a question is refused: the table of document 01, in its order.
-#[derive(Drop)]
+#[derive(Clone, Copy)]
 pub enum Cause {
     TooShort,
     WrongVersion,
@@ -72,14 +74,14 @@ pub enum Cause {
     TooManyEvents,
 }
 
-#[derive(Drop)]
+#[derive(Clone, Copy)]
 pub enum Reading {
     Refused(Cause),
     Readable,
 }
 
 // Where a part of the file starts, and how long it is.
-#[derive(Drop)]
+#[derive(Clone, Copy)]
 pub struct Span {
     pub start: usize,
     pub size: usize,

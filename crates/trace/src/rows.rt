@@ -6,7 +6,7 @@ ghost use Rattle.trace.specs.Kinds.{role_of, row_of};
 use super::limits::{ITEM, ROWS_AT};
 use super::{AgentNo, NonceValue, NumberValue, Role, Row, RowNo, bytes};
 
-#[derive(Drop)]
+#[derive(Clone, Copy)]
 pub struct Fields {
     pub kind: u16,
     pub role: u16,

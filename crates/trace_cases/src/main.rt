@@ -1,4 +1,6 @@
 // The cases of document 01 that concern the file: the sample with up to four bytes changed, read, with the part at fault.
+#![tactic(auto)]
+
 use libc::STDOUT_FILENO;
 use trace::{Cause, Reading};
 

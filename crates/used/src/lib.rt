@@ -2,6 +2,8 @@
 //
 // A mark for each row, in an array. A row is marked after its parts, so that at every moment the parts
 // of a marked row are marked.
+#![tactic(auto)]
+
 ghost use Rattle.std.specs.Prelude.{◌≡◌, suc};
 ghost use Rattle.trace.specs.Events.{event_at};
 ghost use Rattle.trace.specs.Kinds.{row_at};
@@ -17,7 +19,7 @@ const CRYPT: u16 = 8;
 const PAIR: u16 = 9;
 
 // What a row goes into: a side that is not below the row is none.
-#[derive(Drop)]
+#[derive(Clone, Copy)]
 struct Halves {
     left: u16,
     right: u16,

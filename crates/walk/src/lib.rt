@@ -1,4 +1,6 @@
 // The walk over the events: the lowest rule that fits each, else rule 6 on two, else the end.
+#![tactic(auto)]
+
 mod fit;
 
 ghost use Rattle.std.specs.Prelude.{◌≡◌, suc, ◌+◌, ◌<◌, ◌≤◌, set};

@@ -3,7 +3,7 @@
 use Prim.Native.Nat.{◌≤◌, ◌-◌}
 use mathlib.Core.Path.{◌≡◌, refl, ap}
 use native.Mathlib.Omega.{arith}
-use borrow.Author.Tests.{not_true, not-false}
+use borrow.Author.Tests.{not-true, not-false}
 use Rattle.trace.specs.File.{row_limit}
 use Rattle.closure.specs.Closure.{State, state_of, settle}
 use Rattle.closure.proofs.Folds.{see_end, see_last, see_more}
@@ -26,7 +26,7 @@ loop-holds c = (omega arith, refl)
 returns : tie.Need-returns invariant-loop decreases-loop
 returns c =
     let l = c.before.before.loop in
-    let end = see_end c.before.before.before.before.before.before.before.args.file.now _ l.rows l.keys c.before.before.before.learn.ensures l.invariant.1 (not_true _ c.if1.true) in
+    let end = see_end c.before.before.before.before.before.before.before.args.file.now _ l.rows l.keys c.before.before.before.learn.ensures l.invariant.1 (not-true _ c.if1.true) in
     (ap (λ (s : State). s.rows) end, ap (λ (s : State). s.keys) end)
 
 pass-requires : tie.Need-pass-requires invariant-loop decreases-loop

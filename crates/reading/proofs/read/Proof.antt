@@ -5,7 +5,7 @@ use mathlib.Core.Bool.{Bool, true, false, not}
 use mathlib.Core.List.{List}
 use mathlib.Core.Path.{◌≡◌, refl, sym, ◌∙◌}
 use lib.ListN.{length}
-use borrow.Author.Tests.{lt-ltb, le-ltb, ne_eqb, not_true, not-false}
+use borrow.Author.Tests.{lt-ltb, le-ltb, ne_eqb, not-true, not-false}
 use Rattle.trace.specs.File.{rows_from, rows_of, events_of, compromised_in}
 use Rattle.laws.specs.Choose.{choose}
 use Rattle.trace.specs.Tests.{header_of, wrong_version, wrong_set, wrong_contents}
@@ -35,7 +35,7 @@ module _ {g h : Header} (e : g ≡ h) where
 -- the set has the Spy, and not the authority
 module _ (file : List ℕ) {s : Bool} (spy : s ≡ compromised_in file 0) where
   no-spy : not s ≡ true → wrong_set file ≡ true
-  no-spy t = rw (← spy, not_true s t) refl
+  no-spy t = rw (← spy, not-true s t) refl
 
   module _ (there : not s ≡ false) {a : Bool} (authority : a ≡ compromised_in file 1) where
     lost-authority : a ≡ true → wrong_set file ≡ true
