@@ -113,10 +113,10 @@ module _ (file : List ℕ) where
   key_meant m R session = refl
 
   nonce_message : {r : ℕ} {x : RowNo} → NonceBelow file r x → message file x.0 ≡ paper.Nonce (as_nonce (message file x.0))
-  nonce_message {x = x} b = rw (message_row x.0) (nonce_meant _ (row_at file x.0) b.kind)
+  nonce_message {x = x} b = rw (message_row x.0) (nonce_meant (among (messages file x.0)) (row_at file x.0) b.kind)
 
   key_message : {r : ℕ} {x : RowNo} → KeyBelow file r x → message file x.0 ≡ paper.Key (as_key (message file x.0))
-  key_message {x = x} b = rw (message_row x.0) (key_meant _ (row_at file x.0) b.kind)
+  key_message {x = x} b = rw (message_row x.0) (key_meant (among (messages file x.0)) (row_at file x.0) b.kind)
 
   module _ (r : ℕ) (ms : ℕ → paper.msg) (same : (x : ℕ) → x < r → ms x ≡ message file x) where
     ref : {x : RowNo} → NonceBelow file r x → message file x.0 ≡ paper.Nonce (as_nonce (ms x.0))
@@ -144,22 +144,48 @@ module _ (file : List ℕ) where
         message file x.0 ≡ paper.Nonce N → message file y.0 ≡ paper.Nonce N → x ≡ y
     nonces b c p q = named _ _ b.below c.below (p ∙ sym q)
 
+    same_prf : {u x y u' x' y' : RowNo} {S X Y : paper.nonce} → Keeps file r (Prf u x y) → Keeps file s (Prf u' x' y') →
+        message file u.0 ≡ paper.Nonce S → message file x.0 ≡ paper.Nonce X → message file y.0 ≡ paper.Nonce Y →
+        message file u'.0 ≡ paper.Nonce S → message file x'.0 ≡ paper.Nonce X → message file y'.0 ≡ paper.Nonce Y →
+        Prf u x y ≡ Prf u' x' y'
+    same_prf (prf a b c) (prf a' b' c') p q t p' q' t' =
+        λ i. Prf (nonces a a' p p' i) (nonces b b' q q' i) (nonces c c' t t' i)
+
+    same_session : {u v : Role} {x y z x' y' z' : RowNo} {R : paper.role} {X Y Z : paper.nonce} →
+        Keeps file r (SessionKey u x y z) → Keeps file s (SessionKey v x' y' z') →
+        role_meant u ≡ R → message file x.0 ≡ paper.Nonce X → message file y.0 ≡ paper.Nonce Y → message file z.0 ≡ paper.Nonce Z →
+        role_meant v ≡ R → message file x'.0 ≡ paper.Nonce X → message file y'.0 ≡ paper.Nonce Y → message file z'.0 ≡ paper.Nonce Z →
+        SessionKey u x y z ≡ SessionKey v x' y' z'
+    same_session {u} {v} (session_key a b c) (session_key a' b' c') o p q t o' p' q' t' =
+        λ i. SessionKey (role_same u v (o ∙ sym o') i) (nonces a a' p p' i) (nonces b b' q q' i) (nonces c c' t t' i)
+
+    same_hash : {x y : RowNo} {X : paper.msg} → Keeps file r (Hash x) → Keeps file s (Hash y) →
+        message file x.0 ≡ X → message file y.0 ≡ X → Hash x ≡ Hash y
+    same_hash (hash a) (hash b) p q = ap Hash (named _ _ a b (p ∙ sym q))
+
+    same_crypt : {k x k' x' : RowNo} {K : paper.key} {X : paper.msg} → Keeps file r (Crypt k x) → Keeps file s (Crypt k' x') →
+        message file k.0 ≡ paper.Key K → message file x.0 ≡ X → message file k'.0 ≡ paper.Key K → message file x'.0 ≡ X →
+        Crypt k x ≡ Crypt k' x'
+    same_crypt (crypt a b) (crypt a' b') p q p' q' =
+        λ i. Crypt (named _ _ a.below a'.below (p ∙ sym p') i) (named _ _ b b' (q ∙ sym q') i)
+
+    same_pair : {x y x' y' : RowNo} {X Y : paper.msg} → Keeps file r (Pair x y) → Keeps file s (Pair x' y') →
+        message file x.0 ≡ X → message file y.0 ≡ Y → message file x'.0 ≡ X → message file y'.0 ≡ Y → Pair x y ≡ Pair x' y'
+    same_pair (pair a b) (pair a' b') p q p' q' =
+        λ i. Pair (named _ _ a a' (p ∙ sym p') i) (named _ _ b b' (q ∙ sym q') i)
+
     same_row : {R S : Row} {X : paper.msg} →
         Keeps file r R → Keeps file s S → Unfolds (message file) R X → Unfolds (message file) S X → R ≡ S
     same_row k l (as_agent p) (as_agent q) = ap (λ (n : ℕ). Agent (record { 0 = n })) (p ∙ sym q)
     same_row k l (as_number p) (as_number q) = ap (λ (n : ℕ). Number (record { 0 = n })) (p ∙ sym q)
     same_row k l (P.as_nonce p) (P.as_nonce q) = ap (λ (n : ℕ). Nonce (record { 0 = n })) (p ∙ sym q)
-    same_row (prf a b c) (prf a' b' c') (as_prf p q t) (as_prf p' q' t') =
-        λ i. Prf (nonces a a' p p' i) (nonces b b' q q' i) (nonces c c' t t' i)
+    same_row k l (as_prf p q t) (as_prf p' q' t') = same_prf k l p q t p' q' t'
     same_row k l (as_public p) (as_public q) = ap (λ (n : ℕ). PublicKey (record { 0 = n })) (p ∙ sym q)
     same_row k l (as_private p) (as_private q) = ap (λ (n : ℕ). PrivateKey (record { 0 = n })) (p ∙ sym q)
-    same_row (session_key a b c) (session_key a' b' c') (as_session {r = u} o p q t) (as_session {r = v} o' p' q' t') =
-        λ i. SessionKey (role_same u v (o ∙ sym o') i) (nonces a a' p p' i) (nonces b b' q q' i) (nonces c c' t t' i)
-    same_row (hash a) (hash b) (as_hash p) (as_hash q) = ap Hash (named _ _ a b (p ∙ sym q))
-    same_row (crypt a b) (crypt a' b') (as_crypt p q) (as_crypt p' q') =
-        λ i. Crypt (named _ _ a.below a'.below (p ∙ sym p') i) (named _ _ b b' (q ∙ sym q') i)
-    same_row (pair a b) (pair a' b') (as_pair p q) (as_pair p' q') =
-        λ i. Pair (named _ _ a a' (p ∙ sym p') i) (named _ _ b b' (q ∙ sym q') i)
+    same_row k l (as_session o p q t) (as_session o' p' q' t') = same_session k l o p q t o' p' q' t'
+    same_row k l (as_hash p) (as_hash q) = same_hash k l p q
+    same_row k l (as_crypt p q) (as_crypt p' q') = same_crypt k l p q p' q'
+    same_row k l (as_pair p q) (as_pair p' q') = same_pair k l p q p' q'
 
   module _ (n : ℕ) (keeps : (r : ℕ) → r < n → Keeps file r (row_at file r))
       (apart : (r s : ℕ) → r < n → s < n → row_at file r ≡ row_at file s → r ≡ s) where
