@@ -205,7 +205,7 @@ module _ (file : List ℕ) (P : Promised file) where
     t = state_of (set b.rows row 1) (know_row b.keys R) (b.fresh || (sides_at rs ks row).key)
 
     few : row < row_limit
-    few = omega (arith, P.few_rows_lem)
+    few = omega (arith, P.few_rows)
 
     grow : (x : ℕ) → Marked b.rows x → Marked t.rows x
     grow x m = row_keep b.rows g.room row x m
@@ -299,7 +299,7 @@ module _ (file : List ℕ) (P : Promised file) where
     with_grew rs ks r k u =
         let b = both_grew rs ks (sides_at rs ks row) r k in (
           grew_mark rs ks row in_file u (both_sides go rs ks row (sides_at rs ks row)) b.0 b.1 b.2,
-          row_same (both_sides go rs ks row (sides_at rs ks row)).rows b.0.room row (omega (arith, P.few_rows_lem)),
+          row_same (both_sides go rs ks row (sides_at rs ks row)).rows b.0.room row (omega (arith, P.few_rows)),
         )
 
   learn_cases : (d : ℕ) → Learns d → (rs ks : List ℕ) (row : ℕ) → length rs ≡ row_limit → length ks ≡ key_room → row < rows_of file → row ≤ d →
@@ -308,7 +308,7 @@ module _ (file : List ℕ) (P : Promised file) where
   unfolding learn_row
   learn_cases d learns rs ks row r k l h (inl m) = rw (m, learn_row) (grew_still rs ks r k, m)
   learn_cases d learns rs ks row r k l h (inr u) =
-      rw (u, lt-leb row_limit row (omega (arith, P.few_rows_lem)), learn_row) (with_grew d learns row l h rs ks r k u)
+      rw (u, lt-leb row_limit row (omega (arith, P.few_rows)), learn_row) (with_grew d learns row l h rs ks r k u)
 
   pub learns : (d : ℕ) → Learns d
   learns zero rs ks row r k l h = absurd (omega arith)

@@ -172,7 +172,7 @@ module _ (file : List ℕ) (P : Promised file) (H : paper.msg → Type 0) where
   unfolding learn_row
   sound_cases d sounds rs ks row r k l h s a (inl m) = rw (m, learn_row) s
   sound_cases d sounds rs ks row r k l h s a (inr u) =
-      rw (u, lt-leb row_limit row (omega (arith, P.few_rows_lem)), learn_row) (with_sound d sounds row l h rs ks r k s a)
+      rw (u, lt-leb row_limit row (omega (arith, P.few_rows)), learn_row) (with_sound d sounds row l h rs ks r k s a)
 
   sounds : (d : ℕ) → Sounds d
   sounds zero rs ks row r k l h s a = absurd (omega arith)

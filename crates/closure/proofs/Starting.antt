@@ -210,7 +210,7 @@ module _ (file : List ℕ) (P : Promised file) where
         held = λ x l m. row_held (marked_row x l m);
         keys = bad_known;
         rows = λ x A l b q.
-            rows_in file ks (rows_of file) (zeros row_limit) (zeros_room row_limit) x l (omega (arith, P.few_rows_lem)) (row_known b (rw q at (P.unfolds x l)));
+            rows_in file ks (rows_of file) (zeros row_limit) (zeros_room row_limit) x l (omega (arith, P.few_rows)) (row_known b (rw q at (P.unfolds x l)));
         seen = λ X h. inl (only_starts h);
       }
 

@@ -47,5 +47,5 @@ rights file r e l =
       made_right = λ x h.
           mark_made
           (marks_right file P (SeenIn file e) s.rows g.sound.rows analysed (suc x) (zeros row_limit) (omega arith)
-          (omega (arith, P.few_rows_lem, zeros_room)) x (omega arith));
+          (omega (arith, P.few_rows, zeros_room)) x (omega arith));
     }

@@ -20,7 +20,7 @@ use Rattle.trace.specs.declared.Span.{Span}
 use Rattle.trace.specs.declared.Cause.{Cause}
 use Rattle.trace.specs.declared.Cause.TheVariants.{TooShort, WrongVersion, WrongSet, WrongContents, BadRow, RepeatedRow, BadEvent}
 use Rattle.trace.specs.declared.Reading.TheVariants.{Refused}
-use Rattle.trace.proofs.Told.{whole_length, few_rows_lem, few_events}
+use Rattle.trace.proofs.Told.{whole_length, few_rows, few_events}
 
 -- the test of a length without a sum
 pub room_left : (start size len : ℕ) → start ≤ len → leb size (len - start) ≡ leb (start + size) len
@@ -40,7 +40,7 @@ nothing_inside file = record { there = omega arith; low = omega arith }
 -- eight bytes of a file whose contents part is right
 module _ (file : List ℕ) (right : ¬ Wrong file WrongContents) (at : ℕ) (l : at + 8 ≤ length file) where
   pub item_inside : Inside file (record { start = at; size = 8 })
-  item_inside = record { there = l; low = omega (arith, few_rows_lem file right, few_events file right, whole_length file right) }
+  item_inside = record { there = l; low = omega (arith, few_rows file right, few_events file right, whole_length file right) }
 
   item_eight : eight_at file at ≡ record { start = at; size = 8 }
   item_eight = rw (le-leb (at + 8) (length file) l) refl

@@ -19,7 +19,7 @@ use Rattle.trace.specs.declared.Cause.{Cause}
 use Rattle.trace.specs.declared.Reading.TheVariants.{Readable}
 use Rattle.laws.proofs.First.{bool_cases}
 use Rattle.trace.proofs.Tested.{tested, six}
-use Rattle.trace.proofs.Told.{told_read, lowest_none, rows_decided, repeats_decided, events_decided, few_rows_lem, few_events}
+use Rattle.trace.proofs.Told.{told_read, lowest_none, rows_decided, repeats_decided, events_decided, few_rows, few_events}
 use Rattle.trace.proofs.Keeps.{fields_of, row_keeps, row_shows}
 use Rattle.trace.proofs.Meaning.{row_unfolds, messages_apart}
 
@@ -56,7 +56,7 @@ module _ (file : List ℕ) (clean : (c : Cause) → ¬ Wrong file c) where
   promised : Promised file
   promised =
       record {
-        few_rows_lem = few_rows_lem file (clean _);
+        few_rows = few_rows file (clean _);
         few_events = few_events file (clean _);
         spy_bad = spy_known;
         authority_good = λ b. clean _ (authority b);

@@ -250,8 +250,8 @@ same_cause file t u = ap cause_in (refusals.one file _ _ t u)
 
 -- what a file has whose contents part is right
 module _ (file : List ℕ) (right : ¬ Wrong file WrongContents) where
-  pub few_rows_lem : rows_of file ≤ row_limit
-  few_rows_lem = let n : ¬ (row_limit < rows_of file) = λ l. right (rows l) in omega arith
+  pub few_rows : rows_of file ≤ row_limit
+  few_rows = let n : ¬ (row_limit < rows_of file) = λ l. right (rows l) in omega arith
 
   pub few_events : events_of file ≤ event_limit
   few_events = let n : ¬ (event_limit < events_of file) = λ l. right (events l) in omega arith
@@ -274,7 +274,7 @@ told_place file c (refused w none) = go (placed file w) (wrong_number file w)
     go h l = by (ℕ_discrete (number_of c) 5) (ℕ_discrete (number_of c) 6) (ℕ_discrete (number_of c) 7)
       where
         by : Dec (number_of c ≡ 5) → Dec (number_of c ≡ 6) → Dec (number_of c ≡ 7) → place_of c ≤ row_limit
-        by (yes k) m n = omega (arith, (h.1 k).below, few_rows_lem file (right (omega arith)))
-        by (no k) (yes m) n = omega (arith, (h.2 m).below, few_rows_lem file (right (omega arith)))
+        by (yes k) m n = omega (arith, (h.1 k).below, few_rows file (right (omega arith)))
+        by (no k) (yes m) n = omega (arith, (h.2 m).below, few_rows file (right (omega arith)))
         by (no k) (no m) (yes n) = omega (arith, (h.3 n).below, few_events file (right (omega arith)))
         by (no k) (no m) (no n) = omega (arith, h.0 (omega arith))

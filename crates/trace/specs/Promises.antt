@@ -99,7 +99,7 @@ pub data Exists (file : List ℕ) : Event → Type 0 where
   notes : {a : AgentNo} {r : RowNo} → a.0 < agent_limit → r.0 < rows_of file → Exists file (Notes a r)
 
 pub record Promised (file : List ℕ) : Type 0 where
-  pub few_rows_lem : rows_of file ≤ row_limit
+  pub few_rows : rows_of file ≤ row_limit
   pub few_events : events_of file ≤ event_limit
   pub spy_bad : bad file paper.Spy
   pub authority_good : ¬ bad file paper.Authority

@@ -109,12 +109,12 @@ module _ (file : List ℕ) (P : Promised file) where
   module _ (evs : trace) (ms : List ℕ) (g : Good evs ms) where
     abbrev Step : event.event → ℕ → Type 0
     Step e r =
-        Grew file (rows_of file) P.few_rows_lem (UsedRow (e ∷ evs)) (sides_used (e ∷ evs)) ms (use_row file (suc r) ms r) ×
+        Grew file (rows_of file) P.few_rows (UsedRow (e ∷ evs)) (sides_used (e ∷ evs)) ms (use_row file (suc r) ms r) ×
         Marked (use_row file (suc r) ms r) r
 
     step : (e : event.event) (r : ℕ) → r < rows_of file → UsedRow (e ∷ evs) r → Step e r
     step e r l u =
-        uses file (rows_of file) P.few_rows_lem (UsedRow (e ∷ evs)) (sides_used (e ∷ evs)) (suc r) ms r g.room l u (omega arith)
+        uses file (rows_of file) P.few_rows (UsedRow (e ∷ evs)) (sides_used (e ∷ evs)) (suc r) ms r g.room l u (omega arith)
 
     good_event : (E : Event) → Exists file E → Good (event_meant file E ∷ evs) (use_event file ms E)
     good_event (Says a b r) (says la lb l) =
