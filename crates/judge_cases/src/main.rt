@@ -2,7 +2,7 @@
 #![tactic(auto)]
 
 use judge::reply::Verdict;
-use libc::STDOUT_FILENO;
+use std::io;
 use trace::Cause;
 
 // Events over the sample's rows: kind, agent, receiver, row.
@@ -89,39 +89,39 @@ const CASES: [[usize; 15]; 34] = [
 
 const FRESH: u8 = 99;
 
-fn print_number(n: usize) {
-    io::write_all(STDOUT_FILENO, b" ");
-    io::print_decimal(STDOUT_FILENO, n as u64);
+fn print_number(rt: &impl Print, n: usize) -> io::Result<()> {
+    print!(rt; " {n}")
 }
 
 fn wide(b: u8) -> usize {
     b as usize
 }
 
-fn print_bytes(bytes: &[u8]) {
+fn print_bytes(rt: &impl Print, bytes: &[u8]) -> io::Result<()> {
     let mut i = 0;
     while i < bytes.len() {
-        print_number(wide(bytes[i]));
+        print_number(rt, wide(bytes[i]))?;
         i += 1;
     }
+    Ok(())
 }
 
-fn print_refusal(cause: Cause) {
-    io::write_all(STDOUT_FILENO, b" refused");
-    print_number(trace::number(cause) as usize);
-    print_number(trace::place(cause) as usize);
+fn print_refusal(rt: &impl Print, cause: Cause) -> io::Result<()> {
+    print!(rt; " refused")?;
+    print_number(rt, trace::number(cause) as usize)?;
+    print_number(rt, trace::place(cause) as usize)
 }
 
-fn print_verdict(verdict: Verdict) {
+fn print_verdict(rt: &impl Print, verdict: Verdict) -> io::Result<()> {
     match verdict {
-        Verdict::Refused(cause) => print_refusal(cause),
+        Verdict::Refused(cause) => print_refusal(rt, cause),
         Verdict::Illegal(n) => {
-            io::write_all(STDOUT_FILENO, b" illegal");
-            print_number(n as usize);
+            print!(rt; " illegal")?;
+            print_number(rt, n as usize)
         }
         Verdict::Accepted(n) => {
-            io::write_all(STDOUT_FILENO, b" accepted");
-            print_number(n as usize);
+            print!(rt; " accepted")?;
+            print_number(rt, n as usize)
         }
     }
 }
@@ -147,23 +147,29 @@ fn put_event(file: &mut [u8], e: usize, event: usize) {
 }
 
 // The verdict, the whole buffer, and the part at fault.
-fn ask(case: usize, file: &[u8], size: usize, lent: &mut [u8], room: usize) {
+fn ask(
+    rt: &impl Print,
+    case: usize,
+    file: &[u8],
+    size: usize,
+    lent: &mut [u8],
+    room: usize,
+) -> io::Result<()> {
     if file.len() < size {
-        return;
+        return Ok(());
     }
     if lent.len() < room {
-        return;
+        return Ok(());
     }
     let buffer = &mut lent[0..room];
     let part = &file[0..size];
-    io::print_decimal(STDOUT_FILENO, case as u64);
-    io::write_all(STDOUT_FILENO, b":");
-    print_verdict(judge::verdict(part, buffer));
-    io::write_all(STDOUT_FILENO, b" |");
-    print_bytes(buffer);
-    io::write_all(STDOUT_FILENO, b" |");
-    print_bytes(judge::fault(part));
-    io::write_all(STDOUT_FILENO, b"\n");
+    print!(rt; "{case}:")?;
+    print_verdict(rt, judge::verdict(part, buffer))?;
+    print!(rt; " |")?;
+    print_bytes(rt, buffer)?;
+    print!(rt; " |")?;
+    print_bytes(rt, judge::fault(part))?;
+    println!(rt)
 }
 
 fn put_events(file: &mut [u8], c: [usize; 15]) {
@@ -177,18 +183,19 @@ fn put_header(file: &mut [u8], set: usize, events: usize) {
     put(file, 18, events);
 }
 
-fn ask_case(case: usize, c: [usize; 15]) {
+fn ask_case(rt: &impl Print, case: usize, c: [usize; 15]) -> io::Result<()> {
     let mut file = cases::sample();
     put_events(&mut file, c);
     put_header(&mut file, c[1], c[2]);
     put(&mut file, c[4], c[5]);
     put(&mut file, c[6], c[7]);
     let mut lent = [FRESH; 8];
-    ask(case, &file, c[0], &mut lent, c[3]);
+    ask(rt, case, &file, c[0], &mut lent, c[3])
 }
 
-fn main() {
+fn main(rt: HostRuntime) -> io::Result<()> {
     for i in 0..CASES.len() {
-        ask_case(i, CASES[i]);
+        ask_case(&rt, i, CASES[i])?;
     }
+    Ok(())
 }

@@ -4,8 +4,8 @@
 mod chains;
 mod files;
 
-use libc::STDOUT_FILENO;
 use spy::Answer;
+use std::io;
 use trace::Cause;
 use trace::limits::{LONGEST_FILE, ROW_LIMIT, ROWS};
 
@@ -54,68 +54,75 @@ const CASES: [[usize; 7]; 27] = [
 
 const FRESH: u8 = 7;
 
-fn print_number(n: usize) {
-    io::write_all(STDOUT_FILENO, b" ");
-    io::print_decimal(STDOUT_FILENO, n as u64);
+fn print_number(rt: &impl Print, n: usize) -> io::Result<()> {
+    print!(rt; " {n}")
 }
 
 fn wide(b: u8) -> usize {
     b as usize
 }
 
-fn print_bytes(bytes: &[u8]) {
+fn print_bytes(rt: &impl Print, bytes: &[u8]) -> io::Result<()> {
     let mut i = 0;
     while i < bytes.len() {
-        print_number(wide(bytes[i]));
+        print_number(rt, wide(bytes[i]))?;
         i += 1;
     }
-    io::write_all(STDOUT_FILENO, b"\n");
+    println!(rt)
 }
 
-fn print_refusal(cause: Cause) {
-    io::write_all(STDOUT_FILENO, b" refused");
-    print_number(trace::number(cause) as usize);
-    print_number(trace::place(cause) as usize);
+fn print_refusal(rt: &impl Print, cause: Cause) -> io::Result<()> {
+    print!(rt; " refused")?;
+    print_number(rt, trace::number(cause) as usize)?;
+    print_number(rt, trace::place(cause) as usize)
 }
 
-fn print_answer(answer: Answer) {
+fn print_answer(rt: &impl Print, answer: Answer) -> io::Result<()> {
     match answer {
-        Answer::Refused(cause) => print_refusal(cause),
-        Answer::Written => {}
+        Answer::Refused(cause) => print_refusal(rt, cause),
+        Answer::Written => Ok(()),
     }
 }
 
-fn print_case(case: usize) {
-    io::print_decimal(STDOUT_FILENO, case as u64);
-    io::write_all(STDOUT_FILENO, b":");
+fn print_case(rt: &impl Print, case: usize) -> io::Result<()> {
+    print!(rt; "{case}:")
 }
 
 // A small file: the refusal, if it is one, and the whole buffer.
-fn ask(case: usize, file: &[u8], size: usize, n: usize, lent: &mut [u8], room: usize) {
+fn ask(
+    rt: &impl Print,
+    case: usize,
+    file: &[u8],
+    size: usize,
+    n: usize,
+    lent: &mut [u8],
+    room: usize,
+) -> io::Result<()> {
     if file.len() < size {
-        return;
+        return Ok(());
     }
     if lent.len() < room {
-        return;
+        return Ok(());
     }
     let buffer = &mut lent[0..room];
-    print_case(case);
-    print_answer(spy::knowledge(&file[0..size], n, buffer));
-    print_bytes(buffer);
+    print_case(rt, case)?;
+    print_answer(rt, spy::knowledge(&file[0..size], n, buffer))?;
+    print_bytes(rt, buffer)
 }
 
-fn ask_sample(case: usize, c: [usize; 7]) {
+fn ask_sample(rt: &impl Print, case: usize, c: [usize; 7]) -> io::Result<()> {
     let mut file = cases::sample();
     files::put(&mut file, c[1], c[2]);
     files::put(&mut file, c[3], c[4]);
     let mut lent = [FRESH; 32];
-    ask(case, &file, c[0], c[5], &mut lent, c[6]);
+    ask(rt, case, &file, c[0], c[5], &mut lent, c[6])
 }
 
-fn ask_samples() {
+fn ask_samples(rt: &impl Print) -> io::Result<()> {
     for i in 0..CASES.len() {
-        ask_sample(i, CASES[i]);
+        ask_sample(rt, i, CASES[i])?;
     }
+    Ok(())
 }
 
 // One more if the byte is the mark; the bound, which no file reaches, keeps the sum safe.
@@ -138,83 +145,92 @@ fn count(marks: &[u8], mark: u8) -> usize {
     found
 }
 
-fn print_counts(marks: &[u8]) {
-    print_number(count(marks, 2));
-    print_number(count(marks, 1));
-    print_number(count(marks, 0));
+fn print_counts(rt: &impl Print, marks: &[u8]) -> io::Result<()> {
+    print_number(rt, count(marks, 2))?;
+    print_number(rt, count(marks, 1))?;
+    print_number(rt, count(marks, 0))
 }
 
 // A long file: how many rows are marked 2, 1 and 0, and the bytes past the rows.
-fn print_long(marks: &[u8], rows: u16) {
+fn print_long(rt: &impl Print, marks: &[u8], rows: u16) -> io::Result<()> {
     let end = rows as usize;
     if marks.len() < end {
-        return;
+        return Ok(());
     }
-    print_counts(&marks[0..end]);
-    print_bytes(&marks[end..marks.len()]);
+    print_counts(rt, &marks[0..end])?;
+    print_bytes(rt, &marks[end..marks.len()])
 }
 
-fn ask_long(case: usize, file: &[u8], rows: u16, events: u16, n: u16) {
+fn ask_long(
+    rt: &impl Print,
+    case: usize,
+    file: &[u8],
+    rows: u16,
+    events: u16,
+    n: u16,
+) -> io::Result<()> {
     let size = files::length_of(rows, events);
     if file.len() < size {
-        return;
+        return Ok(());
     }
     let mut marks = [FRESH; ROW_LIMIT + 2];
-    print_case(case);
-    print_answer(spy::knowledge(&file[0..size], n as usize, &mut marks));
-    print_long(&marks, rows);
+    print_case(rt, case)?;
+    print_answer(rt, spy::knowledge(&file[0..size], n as usize, &mut marks))?;
+    print_long(rt, &marks, rows)
 }
 
-fn ask_pairs(case: usize, bottom: usize) {
+fn ask_pairs(rt: &impl Print, case: usize, bottom: usize) -> io::Result<()> {
     let mut file = [0u8; LONGEST_FILE];
     chains::pairs(&mut file, bottom);
-    ask_long(case, &file, ROWS, 1, 0);
-    ask_long(case, &file, ROWS, 1, 1);
+    ask_long(rt, case, &file, ROWS, 1, 0)?;
+    ask_long(rt, case, &file, ROWS, 1, 1)
 }
 
-fn ask_opened(case: usize) {
+fn ask_opened(rt: &impl Print, case: usize) -> io::Result<()> {
     let mut file = [0u8; LONGEST_FILE];
     chains::opened(&mut file);
-    ask_long(case, &file, ROWS, 2, 0);
-    ask_long(case, &file, ROWS, 2, 1);
-    ask_long(case, &file, ROWS, 2, 2);
+    ask_long(rt, case, &file, ROWS, 2, 0)?;
+    ask_long(rt, case, &file, ROWS, 2, 1)?;
+    ask_long(rt, case, &file, ROWS, 2, 2)
 }
 
-fn ask_made(case: usize) {
+fn ask_made(rt: &impl Print, case: usize) -> io::Result<()> {
     let mut file = [0u8; LONGEST_FILE];
     chains::made(&mut file);
-    ask_long(case, &file, ROWS, 3, 0);
-    ask_long(case, &file, ROWS, 3, 1);
-    ask_long(case, &file, ROWS, 3, 2);
-    ask_long(case, &file, ROWS, 3, 3);
+    ask_long(rt, case, &file, ROWS, 3, 0)?;
+    ask_long(rt, case, &file, ROWS, 3, 1)?;
+    ask_long(rt, case, &file, ROWS, 3, 2)?;
+    ask_long(rt, case, &file, ROWS, 3, 3)
 }
 
 // Before the last event, and after it.
-fn ask_links(case: usize, falling: bool) {
+fn ask_links(rt: &impl Print, case: usize, falling: bool) -> io::Result<()> {
     let mut file = [0u8; LONGEST_FILE];
     chains::links(&mut file, falling);
     ask_long(
+        rt,
         case,
         &file,
         chains::LINK_ROWS,
         chains::LINKS + 1,
         chains::LINKS,
-    );
+    )?;
     ask_long(
+        rt,
         case,
         &file,
         chains::LINK_ROWS,
         chains::LINKS + 1,
         chains::LINKS + 1,
-    );
+    )
 }
 
-fn main() {
-    ask_samples();
-    ask_pairs(27, chains::NONCE);
-    ask_pairs(28, chains::NUMBER);
-    ask_opened(29);
-    ask_made(30);
-    ask_links(31, true);
-    ask_links(32, false);
+fn main(rt: HostRuntime) -> io::Result<()> {
+    ask_samples(&rt)?;
+    ask_pairs(&rt, 27, chains::NONCE)?;
+    ask_pairs(&rt, 28, chains::NUMBER)?;
+    ask_opened(&rt, 29)?;
+    ask_made(&rt, 30)?;
+    ask_links(&rt, 31, true)?;
+    ask_links(&rt, 32, false)
 }

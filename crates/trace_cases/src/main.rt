@@ -1,7 +1,7 @@
 // The cases of document 01 that concern the file: the sample with up to four bytes changed, read, with the part at fault.
 #![tactic(auto)]
 
-use libc::STDOUT_FILENO;
+use std::io;
 use trace::{Cause, Reading};
 
 // A length, then four edits: a place and its new byte.
@@ -186,47 +186,45 @@ const CASES: [[u16; 9]; 89] = [
     [205, 20, 10, 255, 0, 255, 0, 255, 0],
 ];
 
-fn print_number(n: u16) {
-    io::print_decimal(STDOUT_FILENO, n as u64);
+fn print_number(rt: &impl Print, n: u16) -> io::Result<()> {
+    print!(rt; "{n}")
 }
 
 fn wide(b: u8) -> u16 {
     b as u16
 }
 
-fn print_part(part: &[u8]) {
+fn print_part(rt: &impl Print, part: &[u8]) -> io::Result<()> {
     let mut i = 0;
     while i < part.len() {
-        io::write_all(STDOUT_FILENO, b" ");
-        print_number(wide(part[i]));
+        print!(rt; " ")?;
+        print_number(rt, wide(part[i]))?;
         i += 1;
     }
-    io::write_all(STDOUT_FILENO, b"\n");
+    println!(rt)
 }
 
-fn print_refusal(file: &[u8], cause: Cause) {
-    print_number(trace::number(cause));
-    io::write_all(STDOUT_FILENO, b" ");
-    print_number(trace::place(cause));
-    io::write_all(STDOUT_FILENO, b":");
-    print_part(trace::part(file, trace::span_at_fault(file, cause)));
+fn print_refusal(rt: &impl Print, file: &[u8], cause: Cause) -> io::Result<()> {
+    print_number(rt, trace::number(cause))?;
+    print!(rt; " ")?;
+    print_number(rt, trace::place(cause))?;
+    print!(rt; ":")?;
+    print_part(rt, trace::part(file, trace::span_at_fault(file, cause)))
 }
 
-fn run(file: &[u8], size: u16) {
+fn run(rt: &impl Print, file: &[u8], size: u16) -> io::Result<()> {
     let len = size as usize;
     if file.len() < len {
-        return;
+        return Ok(());
     }
     let file = &file[0..len];
     match reading::read(file) {
-        Reading::Refused(cause) => print_refusal(file, cause),
-        Reading::Readable => {
-            io::write_all(STDOUT_FILENO, b"readable\n");
-        }
+        Reading::Refused(cause) => print_refusal(rt, file, cause),
+        Reading::Readable => println!(rt; "readable"),
     }
 }
 
-fn main() {
+fn main(rt: HostRuntime) -> io::Result<()> {
     let sample = cases::sample();
     for i in 0..CASES.len() {
         let c = CASES[i];
@@ -234,6 +232,7 @@ fn main() {
         let twice = cases::with_byte(once, c[3], c[4]);
         let thrice = cases::with_byte(twice, c[5], c[6]);
         let changed = cases::with_byte(thrice, c[7], c[8]);
-        run(&changed, c[0]);
+        run(&rt, &changed, c[0])?;
     }
+    Ok(())
 }

@@ -1,0 +1,10 @@
+-- `spy_cases::print_bytes` is safe: each index is below the length.
+-- Assumes nothing.
+use Rattle.std.proofs.Common.{length, ◌-◌, ◌≤◌}
+use Rattle.spy_cases.proofs.print_bytes.Given as goal
+
+abbrev pub invariant-loop-i : goal.invariant-loop-i
+invariant-loop-i g l = l.i ≤ length l.bytes
+
+abbrev pub decreases-loop-i : goal.decreases-loop-i
+decreases-loop-i g l = length l.bytes - l.i
