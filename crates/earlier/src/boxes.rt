@@ -149,8 +149,8 @@ pub(crate) fn search(
 // The same in the boxes of all receivers.
 pub(crate) fn search_all(file: &[u8], boxes: &[u16; BOX_ROOM], wanted: Wanted, look: Look) -> bool
     requires { look ≡ look_for wanted }
-    ensures* { λ b. ⌜ b ≡ any (λ b. some (fits_at file.now boxes.now wanted)
-        (chain_from boxes.now (get_or boxes.now b 0))) agent_limit ⌝ }
+    ensures { result ≡ any (λ b. some (fits_at file.now boxes.now wanted)
+        (chain_from boxes.now (get_or boxes.now b 0))) agent_limit }
 {
     let mut b: u16 = 0;
     while b < AGENTS {

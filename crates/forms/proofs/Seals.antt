@@ -87,7 +87,8 @@ module _ (file : List ℕ) (P : Promised file) where
         nb.0,
         pb.0,
         agreement_complete r l
-            (rw (h.whole, f.whole, p.whole, g.whole, sid.1, m.1, na.1, pa.1, a.whole, nb.1, pb.1, b.whole) refl),
+            (rw (h.whole, f.whole, p.whole, g.whole, sid.1, m.1, na.1, pa.1, a.whole, nb.1, pb.1, b.whole)
+            (refl {a = agreed sid.0 m.0 na.0 pa.0 (agreement_of file r).a nb.0 pb.0 (agreement_of file r).b})),
       )
 
   pub sealed_complete : (r : ℕ) {R : paper.role} {SID : ℕ} {M Na : paper.nonce} {Pa : ℕ} {A : paper.agent} {Nb : paper.nonce} {Pb : ℕ} {B : paper.agent} →

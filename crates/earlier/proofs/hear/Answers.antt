@@ -3,14 +3,12 @@
 use mathlib.Core.Bool.{true, false}
 use mathlib.Core.Path.{◌≡◌, refl, ◌∙◌, ap}
 use borrow.Author.Tests.{eqb-true}
-use borrow.Author.Rules.{rules}
 use Rattle.trace.specs.Events.{event_of}
 use Rattle.trace.specs.declared.events.Parts.{Parts}
 use Rattle.laws.proofs.Both.{refuted}
 use Rattle.earlier.specs.declared.Heard.{Heard}
 use Rattle.earlier.specs.Earlier.{heard_in}
-use Rattle.earlier.proofs.hear.Statement.{statement}
-use Rattle.earlier.proofs.hear.Tie as tie
+use Rattle.earlier.proofs.hear.Goals as goal
 
 said : (p : Parts) {q : Parts} → p ≡ q → p.kind ≡ 0 →
     ◌≡◌ {A = Heard} (record { says = true; from = p.sender; to = p.receiver; row = p.row }) (heard_in (event_of q))
@@ -26,11 +24,8 @@ noted p e n =
     in
     k ∙ ap (λ (x : Parts). heard_in (event_of x)) e
 
-returns : tie.Need-returns
-returns c = said _ c.before.before.parts_at.ensures c.if1.true
+pub returns-then-p-eq-SAYS : goal.returns-then-p-eq-SAYS
+returns-then-p-eq-SAYS c = said _ c.parts_at-p.ensures c.if-p-eq-SAYS.true
 
-returns-2 : tie.Need-returns-2
-returns-2 c = noted _ c.before.before.parts_at.ensures c.if1.false
-
-pub hear-spec : {M : Type 1} → statement M
-hear-spec = tie.close (tie.spec (λ c κs. search rules) returns returns-2)
+pub returns-else-p-eq-SAYS : goal.returns-else-p-eq-SAYS
+returns-else-p-eq-SAYS c = noted _ c.parts_at-p.ensures c.if-p-eq-SAYS.false
