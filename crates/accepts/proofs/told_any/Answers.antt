@@ -1,7 +1,6 @@
 -- `accepts::told_any` meets its contract: no event passed has that hash, and the one that it stops at does.
 -- Assumes nothing.
-use Prim.Native.Nat.{ℕ, ◌-◌}
-use mathlib.Core.Bool.{false}
+use Prim.Native.Nat.{ℕ}
 use mathlib.Core.Path.{◌≡◌, sym, ◌∙◌}
 use native.Mathlib.Omega.{arith}
 use borrow.Author.Count.{below_none, below_more}
