@@ -26,7 +26,7 @@ pub in_chain-repeated-requires : goal.in_chain-repeated-requires
 in_chain-repeated-requires c =
     let l = c.loop-r in
     let low = l.invariant.1.low c.bucket-h.result in
-    record { down = l.invariant.1.down; tagged = tagged_fewer _ l.tags _ l.r low l.invariant.4; head_le_row_limit = omega (arith, low) }
+    record { down = l.invariant.1.down; tagged = tagged_fewer _ l.tags _ l.r low l.invariant.4; head_in_range = omega (arith, low) }
 
 pub returns-then-repeated : goal.returns-then-repeated
 returns-then-repeated c =

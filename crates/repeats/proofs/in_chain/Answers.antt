@@ -14,8 +14,8 @@ loop-link-init c = (omega arith, λ s r e. r)
 pub same_row-same-requires : goal.same_row-same-requires
 same_row-same-requires c =
     let link = c.loop-link.link in record {
-      row_lt_row_limit = omega arith;
-      row_value = c.requires.tagged (link - 1) (omega arith);
+      in_range = omega arith;
+      tag_kept = c.requires.tagged (link - 1) (omega arith);
     }
 
 pub returns-then-same : goal.returns-then-same

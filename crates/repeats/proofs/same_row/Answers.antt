@@ -20,7 +20,7 @@ tested h e t = t ∙ ap (λ (f : Fields). same_fields f h) e
 pub returns-then-tags-row : goal.returns-then-tags-row
 returns-then-tags-row c =
     let a = c.args in
-    other (fields_at a.file.now a.row) a.f c.requires.row_value c.tag-wanted.ensures c.if-tags-row.true
+    other (fields_at a.file.now a.row) a.f c.requires.tag_kept c.tag-wanted.ensures c.if-tags-row.true
 
 pub returns : goal.returns
 returns c =

@@ -8,7 +8,7 @@ use Rattle.spy.proofs.know.Goals as goal
 pub loop-e-init : goal.loop-e-init
 loop-e-init c =
     let s = c.start.ensures in
-    (omega arith, known_start c.args.file.now _ _ _ _ c.requires.rows_value c.requires.keys_value s.keys_after s.rows_after)
+    (omega arith, known_start c.args.file.now _ _ _ _ c.requires.no_rows c.requires.no_keys s.keys_after s.rows_after)
 
 pub loop-e-preserved : goal.loop-e-preserved
 loop-e-preserved c =
