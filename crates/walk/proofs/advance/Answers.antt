@@ -2,7 +2,6 @@
 -- Assumes nothing.
 use mathlib.Core.Path.{refl}
 use native.Mathlib.Omega.{arith}
-use borrow.Author.Rules.{rules}
 use Rattle.rules.proofs.Growing.{can_more}
 use Rattle.walk.proofs.Paces.{goes_one, goes_two, goes_last, goes_none, before_next}
 use Rattle.walk.proofs.advance.Goals as goal

@@ -1,6 +1,5 @@
 -- `walk::clear` meets its contract: one turn more is one byte more of `cleared`.
 -- Assumes nothing.
-use Prim.Native.Nat.{◌-◌}
 use mathlib.Core.Path.{◌≡◌, ap, ◌∙◌}
 use native.Mathlib.Omega.{arith}
 use lib.ListN.{length}

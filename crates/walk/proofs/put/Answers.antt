@@ -2,7 +2,6 @@
 -- Assumes nothing.
 use mathlib.Core.Path.{sym}
 use lib.Seq.{set_out}
-use borrow.Author.Rules.{rules}
 use Rattle.walk.proofs.put.Goals as goal
 
 pub returns-else-at-rules : goal.returns-else-at-rules

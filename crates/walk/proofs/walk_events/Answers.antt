@@ -1,6 +1,5 @@
 -- `walk::walk_events` meets its contract: what is left of the walk from event i stays the same.
 -- Assumes nothing.
-use Prim.Native.Nat.{◌-◌}
 use mathlib.Core.Path.{refl, sym, ap, ◌∙◌}
 use native.Mathlib.Omega.{arith}
 use lib.ListN.{length}
@@ -42,16 +41,21 @@ returns-then-n-eq0 c =
     let N = c.walkable-events.result in
     let l = c.loop-i in
     let v = c.advance-n in
+    let g =
     walk_ends f a.rules.now N l.i l.rules _ c.walkable-events.ensures.0
-    (rest_stop (rule_of f) (exchange_of f) N _ l.i v.result l.rules c.loop-i-test.true v.ensures.0 c.if-n-eq0.true l.invariant.3)
-    (v.ensures.1.0 ∙ paced_same (rule_of f) (exchange_of f) N l.i l.rules (sym v.ensures.0 ∙ c.if-n-eq0.true))
+    (rest_stop (rule_of f) (exchange_of f) N _ l.i v.result l.rules c.loop-i-test.true v.ensures.value c.if-n-eq0.true l.invariant.3)
+    (v.ensures.rules_after ∙ paced_same (rule_of f) (exchange_of f) N l.i l.rules (sym v.ensures.value ∙ c.if-n-eq0.true))
+    in record {
+      value = g.0;
+      rules_after = g.1;
+    }
 
 pub overflow_add-i : goal.overflow_add-i
 overflow_add-i c =
     let f = c.args.file.now in
     let l = c.loop-i in
     let v = c.advance-n in
-    let w = pace_within (rule_of f) (exchange_of f) c.walkable-events.result l.i v.result c.loop-i-test.true v.ensures.0 in
+    let w = pace_within (rule_of f) (exchange_of f) c.walkable-events.result l.i v.result c.loop-i-test.true v.ensures.value in
     omega arith
 
 pub loop-i-smaller : goal.loop-i-smaller
@@ -59,7 +63,7 @@ loop-i-smaller c =
     let f = c.args.file.now in
     let l = c.loop-i in
     let v = c.advance-n in
-    let w = pace_within (rule_of f) (exchange_of f) c.walkable-events.result l.i v.result c.loop-i-test.true v.ensures.0 in
+    let w = pace_within (rule_of f) (exchange_of f) c.walkable-events.result l.i v.result c.loop-i-test.true v.ensures.value in
     omega arith
 
 pub loop-i-preserved : goal.loop-i-preserved
@@ -68,13 +72,13 @@ loop-i-preserved c =
     let N = c.walkable-events.result in
     let l = c.loop-i in
     let v = c.advance-n in
-    let w = pace_within (rule_of f) (exchange_of f) N l.i v.result c.loop-i-test.true v.ensures.0 in (
+    let w = pace_within (rule_of f) (exchange_of f) N l.i v.result c.loop-i-test.true v.ensures.value in (
       w,
-      ap length v.ensures.1.0 ∙ paced_length (rule_of f) (exchange_of f) N l.i l.rules ∙ l.invariant.1,
-      v.ensures.1.1.0,
-      rest_more (rule_of f) (exchange_of f) N _ l.i v.result l.rules _ c.loop-i-test.true v.ensures.0 c.if-n-eq0.false
-          v.ensures.1.0 l.invariant.3,
-      v.ensures.1.1.1,
+      ap length v.ensures.rules_after ∙ paced_length (rule_of f) (exchange_of f) N l.i l.rules ∙ l.invariant.1,
+      v.ensures.after,
+      rest_more (rule_of f) (exchange_of f) N _ l.i v.result l.rules _ c.loop-i-test.true v.ensures.value c.if-n-eq0.false
+          v.ensures.rules_after l.invariant.3,
+      v.ensures.sound_after,
     )
 
 pub shape_of-rules : goal.shape_of-rules
@@ -86,5 +90,10 @@ returns c =
     let f = a.file.now in
     let N = c.walkable-events.result in
     let l = c.loop-i in
+    let g =
     walk_ends f a.rules.now N l.i l.rules _ c.walkable-events.ensures.0
     (rest_end (rule_of f) (exchange_of f) N _ l.i l.rules c.loop-i-test.false l.invariant.3) refl
+    in record {
+      value = g.0;
+      rules_after = g.1;
+    }
