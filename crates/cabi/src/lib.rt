@@ -1,4 +1,4 @@
-// The questions for C and other languages: each reply is one number, which include/mirzhelo.h documents.
+// The questions for C and other languages: each reply is one number, which include/mirzhelo.h documents. cabi_c exports them.
 #![tactic(auto)]
 
 ghost use Rattle.std.specs.Prelude.{◌≡◌};
@@ -41,24 +41,21 @@ fn answer_code(answer: Answer) -> u32
 }
 
 // The verdict: a rule number for each event of the longest accepted beginning, and 0 for the others.
-#[unsafe(no_mangle)]
-pub extern "C" fn mz_verdict(file: &[u8], rules: &mut [u8]) -> u32
+pub fn mz_verdict(file: &[u8], rules: &mut [u8]) -> u32
     ensures { VerdictCoded file.now rules.old result rules.new }
 {
     verdict_code(judge::verdict(file, rules))
 }
 
 // The spy's knowledge: a mark for each row after the first n events.
-#[unsafe(no_mangle)]
-pub extern "C" fn mz_knowledge(file: &[u8], n: usize, marks: &mut [u8]) -> u32
+pub fn mz_knowledge(file: &[u8], n: usize, marks: &mut [u8]) -> u32
     ensures { AnswerCoded file.now n marks.old result marks.new }
 {
     answer_code(spy::knowledge(file, n, marks))
 }
 
 // Where the part at fault lies.
-#[unsafe(no_mangle)]
-pub extern "C" fn mz_fault(file: &[u8]) -> u32
+pub fn mz_fault(file: &[u8]) -> u32
     ensures { FaultCoded file.now result }
 {
     let span = judge::fault_span(file);

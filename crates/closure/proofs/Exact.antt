@@ -60,14 +60,17 @@ module _ (file : List ℕ) (P : Promised file) where
     pair_row : (x : ℕ) (R : Row) {X Y : paper.msg} → x < rows_of file → Keeps file x R → Unfolds (message file) R (paper.Pair X Y) →
         SidesMarked x R → Has rs X × Has rs Y
     pair_row x R l (pair a b) (as_pair {x = i} {y = j} p q) c = ((i.0, omega arith, p, c.0 a), (j.0, omega arith, q, c.1 b))
+    pair_row x _ l _ u c = elim u [ ]
 
     pair_has : {X Y : paper.msg} → Has rs (paper.Pair X Y) → Has rs X × Has rs Y
     pair_has (x, l, e, m) = pair_row x (row_at file x) l (P.keeps x l) (rw e at (P.unfolds x l)) (g.closed x l m)
 
     left_has : {X Y : paper.msg} → Holds (paper.Pair X Y) → Holds X
+    left_has (inl s) = elim s [ ]
     left_has (inr h) = inr (pair_has h).0
 
     right_has : {X Y : paper.msg} → Holds (paper.Pair X Y) → Holds Y
+    right_has (inl s) = elim s [ ]
     right_has (inr h) = inr (pair_has h).1
 
     -- the key of a row that is held is known
@@ -82,10 +85,12 @@ module _ (file : List ℕ) (P : Promised file) where
     private_known (inr (x, l, e, m)) = private_held (row_at file x) (rw e at (P.unfolds x l)) (g.held x l m)
 
     public_known : {A : ℕ} → Holds (paper.Key (paper.pub_k A)) → Known ks A
+    public_known (inl s) = elim s [ ]
     public_known (inr (x, l, e, m)) = public_held (row_at file x) (rw e at (P.unfolds x l)) (g.held x l m)
 
     session_marked : (k : ℕ) {r : paper.role} {X Y Z : paper.nonce} → k < rows_of file → message file k ≡ paper.Key (paper.session_k r X Y Z) →
         Holds (paper.Key (paper.session_k r X Y Z)) → Marked rs k
+    session_marked k l e (inl s) = elim s [ ]
     session_marked k l e (inr (x, lx, ex, m)) = subst (Marked rs) (P.apart x k lx l (ex ∙ sym e)) m
 
     opens_row_lem : (k : ℕ) (R : Row) {K : paper.key} → k < rows_of file → message file k ≡ paper.Key K → Unfolds (message file) R (paper.Key K) →
@@ -104,8 +109,10 @@ module _ (file : List ℕ) (P : Promised file) where
     crypt_row x R l (crypt {k = k} b h) (as_crypt {x = y} p q) i c =
         let o = opens_complete k.0 (omega (arith, b.below)) p i in
         (y.0, omega arith, q, (rw o at c).0 h)
+    crypt_row x _ l _ u i c = elim u [ ]
 
     body_has : {K : paper.key} {X : paper.msg} → Holds (paper.Crypt K X) → Holds (paper.Key (paper.inv_key K)) → Holds X
+    body_has (inl s) i = elim s [ ]
     body_has (inr (x, l, e, m)) i =
         inr (crypt_row x (row_at file x) l (P.keeps x l) (rw e at (P.unfolds x l)) i (g.closed x l m))
 

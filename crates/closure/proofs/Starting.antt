@@ -11,7 +11,7 @@ use lib.Dec.{ltb}
 use lib.ListN.{length, length-replicate}
 use borrow.Author.Tests.{ltb-true}
 use Rattle.paper.specs.Message as paper
-use Rattle.paper.specs.Spy.{Starts, own, Spies, start, Analz, inj}
+use Rattle.paper.specs.Spy.{Starts, own, Spies, start, said, noted, Analz, inj}
 use Rattle.trace.specs.File.{row_limit, agent_limit, rows_of, events_of, compromised_in}
 use Rattle.laws.specs.Choose.{choose}
 use Rattle.trace.specs.Events.{event_at}
@@ -173,6 +173,7 @@ module _ (file : List ℕ) (P : Promised file) where
 
   row_sound : {R : Row} {X : paper.msg} → Unfolds (message file) R X → OfBad R → Analz H X
   row_sound (as_private q) (of_bad b) = inj (start (own (rw q at b)))
+  row_sound _ x = elim x [ ]
 
   row_closed : (x : ℕ) {R : Row} → OfBad R →
       ((sides_of file rs ks x R).left < x → Marked rs (sides_of file rs ks x R).left) ×
@@ -195,6 +196,8 @@ module _ (file : List ℕ) (P : Promised file) where
 
   only_starts : {X : paper.msg} → H X → Starts (bad file) X
   only_starts (start s) = s
+  only_starts (said x) = elim x [ ]
+  only_starts (noted _ x) = elim x [ ]
 
   pub good_start : Good file P [] rs ks
   good_start =

@@ -17,16 +17,20 @@ use Rattle.forms.proofs.Flags.{Holds, holds, held, both5, both6}
 -- two kinds of one row
 pair_crypt : (R : Row) → Holds (pair_in R).is → (crypt_in R).is ≡ false
 pair_crypt (Pair x y) holds = refl
+pair_crypt _ h = elim h [ ]
 
 number_pair : (R : Row) → Holds (is_number_row R) → (pair_in R).is ≡ false
 number_pair (Number x) holds = refl
+number_pair _ h = elim h [ ]
 
 nonce_pair : (R : Row) → Holds (is_nonce_row R) → (pair_in R).is ≡ false
 nonce_pair (Nonce x) holds = refl
 nonce_pair (Prf x y z) holds = refl
+nonce_pair _ h = elim h [ ]
 
 public_private : (R : Row) → Holds (public_in R).is → (private_in R).is ≡ false
 public_private (PublicKey x) holds = refl
+public_private _ h = elim h [ ]
 
 clash : {A : Type 0} {b : Bool} → b ≡ false → b ≡ true → A
 clash f t = absurd (true≢false (sym t ∙ f))

@@ -428,12 +428,12 @@ module _ (file boxes : List ℕ) (e : ℕ) {h : Heard} (heard : h ≡ heard_at f
       in
       λ i. boxed_by (b i) (s i) (a i)
 
-  pub box_new : not again ≡ true → written_at at slot ≡ boxed_in file boxes e
+  pub box_new : again ≡ false → written_at at slot ≡ boxed_in file boxes e
   box_new t =
       let w : boxed_by at slot again ≡ written_at at slot = rw t refl in
       sym w ∙ boxed_is
 
-  pub box_old : not again ≡ false → boxes ≡ boxed_in file boxes e
+  pub box_old : again ≡ true → boxes ≡ boxed_in file boxes e
   box_old t =
       let w : boxed_by at slot again ≡ boxes = rw t refl in
       sym w ∙ boxed_is

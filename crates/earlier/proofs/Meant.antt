@@ -36,6 +36,7 @@ in_beginning file e (suc n) l = go (lt_suc e n l) (λ (h : e < n). in_beginning 
 pub beginning_in : (file : List ℕ) (n : ℕ) {E : event.event} → In E (beginning file n) →
     (j : ℕ) × (j < n) × (event_meant file (event_at file j) ≡ E)
 unfolding beginning
+beginning_in file zero i = elim i [ ]
 beginning_in file (suc n) here = (n, omega arith, refl)
 beginning_in file (suc n) {E} (there i) = go (beginning_in file n i)
   where

@@ -366,10 +366,10 @@ module _ (file : List ℕ) (P : Promised file) (e : ℕ) (le : e ≤ events_of f
       in
       let n = (shapes file P).remembered_sound r (row_in file P e le f.0 f.1) c.0 in
       let q : message file r ≡ session_note SID a b M =
-      n.2.whole ∙
-      session_same (number_one (one_message file (remembered_of file r).sid sid n.2.sid c.1 hs))
+      ◌∙◌ {b = session_note n.0 (remembered_of file r).a (remembered_of file r).b n.1} n.2.whole
+      (session_same (number_one (one_message file (remembered_of file r).sid sid n.2.sid c.1 hs))
       (eqb-true (remembered_of file r).a a c.2) (eqb-true (remembered_of file r).b b c.3)
-      (nonce_one (one_message file (remembered_of file r).m m n.2.m c.4 hm))
+      (nonce_one (one_message file (remembered_of file r).m m n.2.m c.4 hm)))
       in
       noted_sound file P e le f.0 from f.1 d.0 q
 

@@ -149,8 +149,8 @@ pub(crate) fn search(
 // The same in the boxes of all receivers.
 pub(crate) fn search_all(file: &[u8], boxes: &[u16; BOX_ROOM], wanted: Wanted, look: Look) -> bool
     requires { look ≡ look_for wanted }
-    ensures* { λ b. ⌜ b ≡ any (λ b. some (fits_at file.now boxes.now wanted)
-        (chain_from boxes.now (get_or boxes.now b 0))) agent_limit ⌝ }
+    ensures { result ≡ any (λ b. some (fits_at file.now boxes.now wanted)
+        (chain_from boxes.now (get_or boxes.now b 0))) agent_limit }
 {
     let mut b: u16 = 0;
     while b < AGENTS {
@@ -218,8 +218,8 @@ pub fn sealed(boxes: &[u16; BOX_ROOM], server: bool, e: u16) -> u16
 
 // Event e, which is h, is put into its box, unless its slot leads to one that equals it.
 fn box_event(file: &[u8], boxes: &mut [u16; BOX_ROOM], e: u16, h: Heard)
-    requires e_lt_event_limit { e < event_limit }
-    requires h_value { h ≡ heard_at file.now e }
+    requires in_range { e < event_limit }
+    requires heard { h ≡ heard_at file.now e }
     ensures { boxes.new ≡ boxed_in file.now boxes.old e }
 {
     let at = box_of(h) as usize;

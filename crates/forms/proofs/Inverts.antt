@@ -29,9 +29,11 @@ module _ (file : List ℕ) (P : Promised file) where
   agent_row : (r : ℕ) (R : Row) {A : paper.agent} → Keeps file r R → Unfolds (message file) R (paper.Agent A) →
       ((agent_in R).is ≡ true) × ((agent_in R).first ≡ A) × (A < agent_limit)
   agent_row r R (agent b) (as_agent q) = (refl, q, rw q at b)
+  agent_row _ _ _ u = elim u [ ]
 
   agent_kind : (R : Row) {Z : paper.msg} → Unfolds (message file) R Z → Holds (agent_in R).is → (A : paper.agent) × (Z ≡ paper.Agent A)
   agent_kind R (as_agent {A = A} q) holds = (A, refl)
+  agent_kind _ _ h = elim h [ ]
 
   pub agent_complete : (r : ℕ) {A : paper.agent} → r < rows_of file → message file r ≡ paper.Agent A → IsAgent file r A
   unfolding agent_of
@@ -48,10 +50,12 @@ module _ (file : List ℕ) (P : Promised file) where
   public_row : (r : ℕ) (R : Row) {A : paper.agent} → Keeps file r R → Unfolds (message file) R (paper.Key (paper.pub_k A)) →
       ((public_in R).is ≡ true) × ((public_in R).first ≡ A) × (A < agent_limit)
   public_row r R (public_key b) (as_public q) = (refl, q, rw q at b)
+  public_row _ _ _ u = elim u [ ]
 
   public_kind : (R : Row) {Z : paper.msg} → Unfolds (message file) R Z → Holds (public_in R).is → (A : paper.agent) ×
       (Z ≡ paper.Key (paper.pub_k A))
   public_kind R (as_public {A = A} q) holds = (A, refl)
+  public_kind _ _ h = elim h [ ]
 
   pub public_complete : (r : ℕ) {A : paper.agent} → r < rows_of file → message file r ≡ paper.Key (paper.pub_k A) → IsPublic file r A
   unfolding public_of
@@ -68,10 +72,12 @@ module _ (file : List ℕ) (P : Promised file) where
   private_row : (r : ℕ) (R : Row) {A : paper.agent} → Keeps file r R → Unfolds (message file) R (paper.Key (paper.pri_k A)) →
       ((private_in R).is ≡ true) × ((private_in R).first ≡ A) × (A < agent_limit)
   private_row r R (private_key b) (as_private q) = (refl, q, rw q at b)
+  private_row _ _ _ u = elim u [ ]
 
   private_kind : (R : Row) {Z : paper.msg} → Unfolds (message file) R Z → Holds (private_in R).is → (A : paper.agent) ×
       (Z ≡ paper.Key (paper.pri_k A))
   private_kind R (as_private {A = A} q) holds = (A, refl)
+  private_kind _ _ h = elim h [ ]
 
   pub private_complete : (r : ℕ) {A : paper.agent} → r < rows_of file → message file r ≡ paper.Key (paper.pri_k A) → IsPrivate file r A
   unfolding private_of
@@ -88,9 +94,11 @@ module _ (file : List ℕ) (P : Promised file) where
   hash_row : (r : ℕ) (R : Row) {X : paper.msg} → r < rows_of file → Keeps file r R → Unfolds (message file) R (paper.Hash X) →
       ((hash_in R).is ≡ true) × RowHolds file (hash_in R).first (X)
   hash_row r R l (hash a) (as_hash {x = i} p) = (refl, in_file r i.0 l a p)
+  hash_row _ _ _ _ u = elim u [ ]
 
   hash_kind : (R : Row) {Z : paper.msg} → Unfolds (message file) R Z → Holds (hash_in R).is → (X : paper.msg) × (Z ≡ paper.Hash X)
   hash_kind R (as_hash {X = X} p) holds = (X, refl)
+  hash_kind _ _ h = elim h [ ]
 
   pub hash_complete : (r : ℕ) {X : paper.msg} → r < rows_of file → message file r ≡ paper.Hash X → IsHash file r X
   unfolding hash_of
@@ -116,10 +124,12 @@ module _ (file : List ℕ) (P : Promised file) where
   pair_row : (r : ℕ) (R : Row) {X Y : paper.msg} → r < rows_of file → Keeps file r R → Unfolds (message file) R (paper.Pair X Y) →
       ((pair_in R).is ≡ true) × RowHolds file (pair_in R).first (X) × RowHolds file (pair_in R).second (Y)
   pair_row r R l (pair a b) (as_pair {x = i} {y = j} p q) = (refl, in_file r i.0 l a p, in_file r j.0 l b q)
+  pair_row _ _ _ _ u = elim u [ ]
 
   pair_kind : (R : Row) {Z : paper.msg} → Unfolds (message file) R Z → Holds (pair_in R).is → (X : paper.msg) × (Y : paper.msg) ×
       (Z ≡ paper.Pair X Y)
   pair_kind R (as_pair {X = X} {Y = Y} p q) holds = (X, Y, refl)
+  pair_kind _ _ h = elim h [ ]
 
   pub pair_complete : (r : ℕ) {X Y : paper.msg} → r < rows_of file → message file r ≡ paper.Pair X Y → IsPair file r X Y
   unfolding pair_of
@@ -146,10 +156,12 @@ module _ (file : List ℕ) (P : Promised file) where
       Unfolds (message file) R (paper.Crypt K X) →
       ((crypt_in R).is ≡ true) × RowHolds file (crypt_in R).first (paper.Key K) × RowHolds file (crypt_in R).second (X)
   crypt_row r R l (crypt a b) (as_crypt {k = i} {x = j} p q) = (refl, in_file r i.0 l a.below p, in_file r j.0 l b q)
+  crypt_row _ _ _ _ u = elim u [ ]
 
   crypt_kind : (R : Row) {Z : paper.msg} → Unfolds (message file) R Z → Holds (crypt_in R).is → (K : paper.key) × (X : paper.msg) ×
       (Z ≡ paper.Crypt K X)
   crypt_kind R (as_crypt {K = K} {X = X} p q) holds = (K, X, refl)
+  crypt_kind _ _ h = elim h [ ]
 
   pub crypt_complete : (r : ℕ) {K : paper.key} {X : paper.msg} → r < rows_of file → message file r ≡ paper.Crypt K X → IsCrypt file r K X
   unfolding crypt_of
@@ -177,10 +189,12 @@ module _ (file : List ℕ) (P : Promised file) where
       ((prf_in R).is ≡ true) × RowHolds file (prf_in R).first (paper.Nonce S) × RowHolds file (prf_in R).second (paper.Nonce Na) ×
       RowHolds file (prf_in R).third (paper.Nonce Nb)
   prf_row r R l (prf a b c) (as_prf {s = i} {x = j} {y = k} p q s) = (refl, in_file r i.0 l a.below p, in_file r j.0 l b.below q, in_file r k.0 l c.below s)
+  prf_row _ _ _ _ u = elim u [ ]
 
   prf_kind : (R : Row) {Z : paper.msg} → Unfolds (message file) R Z → Holds (prf_in R).is → (S : paper.nonce) × (Na : paper.nonce) ×
       (Nb : paper.nonce) × (Z ≡ paper.Nonce (paper.PRF S Na Nb))
   prf_kind R (as_prf {S = S} {X = Na} {Y = Nb} p q s) holds = (S, Na, Nb, refl)
+  prf_kind _ _ h = elim h [ ]
 
   pub prf_complete : (r : ℕ) {S Na Nb : paper.nonce} → r < rows_of file → message file r ≡ paper.Nonce (paper.PRF S Na Nb) →
       IsPrf file r S Na Nb
@@ -209,10 +223,12 @@ module _ (file : List ℕ) (P : Promised file) where
       ((session_in R).is ≡ true) × (role_named (session_in R).server ≡ R') × RowHolds file (session_in R).first (paper.Nonce Na) ×
       RowHolds file (session_in R).second (paper.Nonce Nb) × RowHolds file (session_in R).third (paper.Nonce M)
   session_row r R l (session_key a b c) (as_session {r = o} {x = i} {y = j} {z = k} t p q s) = (refl, role_named_lem o ∙ t, in_file r i.0 l a.below p, in_file r j.0 l b.below q, in_file r k.0 l c.below s)
+  session_row _ _ _ _ u = elim u [ ]
 
   session_kind : (R : Row) {Z : paper.msg} → Unfolds (message file) R Z → Holds (session_in R).is → (R' : paper.role) ×
       (Na : paper.nonce) × (Nb : paper.nonce) × (M : paper.nonce) × (Z ≡ paper.Key (paper.session_k R' Na Nb M))
   session_kind R (as_session {R = R'} {X = Na} {Y = Nb} {Z = M} t p q s) holds = (R', Na, Nb, M, refl)
+  session_kind _ _ h = elim h [ ]
 
   pub session_complete : (r : ℕ) {R' : paper.role} {Na Nb M : paper.nonce} → r < rows_of file →
       message file r ≡ paper.Key (paper.session_k R' Na Nb M) → IsSession file r R' Na Nb M
@@ -243,6 +259,7 @@ module _ (file : List ℕ) (P : Promised file) where
 
   number_kind : (R : Row) {Z : paper.msg} → Unfolds (message file) R Z → Holds (is_number_row R) → (n : ℕ) × (Z ≡ paper.Number n)
   number_kind R (as_number {n = n} q) holds = (n, refl)
+  number_kind _ _ h = elim h [ ]
 
   pub number_complete : (r : ℕ) {n : ℕ} → r < rows_of file → message file r ≡ paper.Number n → is_number file r ≡ true
   unfolding is_number
@@ -259,6 +276,7 @@ module _ (file : List ℕ) (P : Promised file) where
   nonce_kind : (R : Row) {Z : paper.msg} → Unfolds (message file) R Z → Holds (is_nonce_row R) → (N : paper.nonce) × (Z ≡ paper.Nonce N)
   nonce_kind R (as_nonce {n = n} q) holds = (paper.plain n, refl)
   nonce_kind R (as_prf {S = S} {X = X} {Y = Y} p q s) holds = (paper.PRF S X Y, refl)
+  nonce_kind _ _ h = elim h [ ]
 
   pub nonce_complete : (r : ℕ) {N : paper.nonce} → r < rows_of file → message file r ≡ paper.Nonce N → is_nonce file r ≡ true
   unfolding is_nonce
@@ -273,6 +291,7 @@ module _ (file : List ℕ) (P : Promised file) where
 
   plain_kind : (R : Row) {Z : paper.msg} → Unfolds (message file) R Z → Holds (is_plain_row R) → (n : ℕ) × (Z ≡ paper.Nonce (paper.plain n))
   plain_kind R (as_nonce {n = n} q) holds = (n, refl)
+  plain_kind _ _ h = elim h [ ]
 
   pub plain_complete : (r : ℕ) {n : ℕ} → r < rows_of file → message file r ≡ paper.Nonce (paper.plain n) → is_plain file r ≡ true
   unfolding is_plain
@@ -291,6 +310,7 @@ module _ (file : List ℕ) (P : Promised file) where
   key_kind R (as_public {A = A} q) holds = (paper.pub_k A, refl)
   key_kind R (as_private {A = A} q) holds = (paper.pri_k A, refl)
   key_kind R (as_session {R = R'} {X = X} {Y = Y} {Z = Z} t p q s) holds = (paper.session_k R' X Y Z, refl)
+  key_kind _ _ h = elim h [ ]
 
   pub key_complete : (r : ℕ) {K : paper.key} → r < rows_of file → message file r ≡ paper.Key K → is_key file r ≡ true
   unfolding is_key

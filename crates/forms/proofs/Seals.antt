@@ -87,7 +87,8 @@ module _ (file : List ℕ) (P : Promised file) where
         nb.0,
         pb.0,
         agreement_complete r l
-            (rw (h.whole, f.whole, p.whole, g.whole, sid.1, m.1, na.1, pa.1, a.whole, nb.1, pb.1, b.whole) refl),
+            (rw (h.whole, f.whole, p.whole, g.whole, sid.1, m.1, na.1, pa.1, a.whole, nb.1, pb.1, b.whole)
+            (refl {a = agreed sid.0 m.0 na.0 pa.0 (agreement_of file r).a nb.0 pb.0 (agreement_of file r).b})),
       )
 
   pub sealed_complete : (r : ℕ) {R : paper.role} {SID : ℕ} {M Na : paper.nonce} {Pa : ℕ} {A : paper.agent} {Nb : paper.nonce} {Pb : ℕ} {B : paper.agent} →
@@ -141,8 +142,16 @@ module _ (file : List ℕ) (P : Promised file) where
       let s =
       session_of_lem k (agreement_of file x).na (agreement_of file x).nb (agreement_of file x).m c.first.row b.1
       (eqb-true _ _ b.3) (eqb-true _ _ b.4) (eqb-true _ _ b.5) g.6.na g.6.nb g.6.m
-      in
-      (g.0, g.1, g.2, g.3, g.4, g.5, sealed_complete r l (rw (c.whole, s, g.6.whole) refl))
+      in (
+        g.0,
+        g.1,
+        g.2,
+        g.3,
+        g.4,
+        g.5,
+        sealed_complete r l (rw (c.whole, s, g.6.whole)
+            (refl {a = Finished (role_named (session_of file k).server) g.0 g.1 g.2 g.3 (agreement_of file x).a g.4 g.5 (agreement_of file x).b})),
+      )
 
   pub derived_complete : (r : ℕ) {R : paper.role} {M Na Nb : paper.nonce} → r < rows_of file →
       message file r ≡ paper.Pair (paper.Nonce (paper.PRF M Na Nb)) (paper.Key (paper.session_k R Na Nb M)) → IsDerived file r R M Na Nb

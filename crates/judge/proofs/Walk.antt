@@ -16,7 +16,7 @@ use Rattle.paper.specs.Event.{event, trace}
 use Rattle.paper.specs.Rules.{Exchange, ClientKeyExch}
 use Rattle.paper.specs.Generated.{Nil, step, exchange}
 use Rattle.trace.specs.File.{events_of}
-use Rattle.trace.specs.Meaning.{beginning, bad}
+use Rattle.trace.specs.Meaning.{beginning}
 use Rattle.laws.proofs.First.{bool_cases, lt_suc}
 use Rattle.walk.specs.Walk.{Walked, walked_to, walk}
 use Rattle.judge.specs.Judged.{AcceptedTo, Fits, Exchanged, RuleAt, lowest, note, message}

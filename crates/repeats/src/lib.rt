@@ -46,8 +46,8 @@ fn tag(f: Fields) -> u32
 
 // Whether the row has these fields. It is read only where its tag is theirs.
 fn same_row(file: &[u8], tags: &[u32; ROW_LIMIT], row: u16, f: Fields) -> bool
-    requires row_lt_row_limit { row < row_limit }
-    requires row_value { get_or tags.now row 0 ≡ tag_of (fields_at file.now row) }
+    requires in_range { row < row_limit }
+    requires tag_kept { get_or tags.now row 0 ≡ tag_of (fields_at file.now row) }
     ensures { result ≡ same_fields (fields_at file.now row) f }
 {
     let wanted = tag(f);
@@ -67,7 +67,7 @@ fn in_chain(
 ) -> bool
     requires down { Down nexts.now }
     requires tagged { Tagged file.now tags.now head }
-    requires head_le_row_limit { head ≤ row_limit }
+    requires head_in_range { head ≤ row_limit }
     ensures { Searched file.now nexts.now head f result }
 {
     let mut link = head;

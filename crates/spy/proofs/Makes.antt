@@ -76,6 +76,7 @@ module _ (file : List ℕ) (P : Promised file) (H : paper.msg → Type 0) (rows 
         rw (complete k.0 (omega (arith, b.below)) (rw p a), lower_complete x.0 l (rw q s))
     makes_complete R (pair l m) (as_pair {x = x} {y = y} p q) n (spy.pair s t) =
         rw (lower_complete x.0 l (rw p s), lower_complete y.0 m (rw q t))
+    makes_complete _ kp u n s = elim u [ ]
 
     mark_right : Mark H (message file r) (mark_of file rows marks r)
     mark_right = go (bool_cases (row_marked rows r)) (bool_cases (makes rows marks (row_at file r)))

@@ -118,11 +118,14 @@ module _ (file : List ℕ) (P : Promised file) where
   seen_shown : (n : ℕ) {X : msg} → n ≤ events_of file → SeenIn file n X → Found X (events_left file n)
   unfolding beginning events_left
   seen_shown zero l (start s) = inl s
+  seen_shown zero l (said i) = elim i [ ]
+  seen_shown zero l (noted _ i) = elim i [ ]
   seen_shown (suc n) l h =
       seen_event (event_at file n) (events_left file n) (P.exists n (omega arith)) (seen_shown n (omega arith)) h
 
   shown_seen : (n : ℕ) {X : msg} → Shown file X (events_left file n) → SeenIn file n X
   unfolding beginning events_left
+  shown_seen zero i = elim i [ ]
   shown_seen (suc n) i = shown_event (event_at file n) (events_left file n) (shown_seen n) i
 
 -- equal rows have equal messages

@@ -21,8 +21,8 @@ pub enum Answer {
 
 // What is known after the first n events, in arrays of zeros.
 fn know(file: &[u8], rows: &mut [u8; ROW_LIMIT], keys: &mut [u8; KEYS], n: u16)
-    requires rows_value { rows.old ≡ zeros row_limit }
-    requires keys_value { keys.old ≡ zeros key_room }
+    requires no_rows { rows.old ≡ zeros row_limit }
+    requires no_keys { keys.old ≡ zeros key_room }
     ensures rows_after { rows.new ≡ (known_after file.now n).rows }
     ensures keys_after { keys.new ≡ (known_after file.now n).keys }
 {

@@ -48,21 +48,21 @@ module _ (file : List ℕ) where
 
   -- `use_row` and `used_below`, case by case
   module _ (ms : List ℕ) (row : ℕ) where
-    pub use-known : row_marked ms row ≡ true → ms ≡ use_row file (suc row) ms row
+    pub use_known : row_marked ms row ≡ true → ms ≡ use_row file (suc row) ms row
     unfolding use_row
-    use-known e = rw (e, use_row)
+    use_known e = rw (e, use_row)
 
-    pub use-past : row_limit ≤ row → ms ≡ use_row file (suc row) ms row
+    pub use_past : row_limit ≤ row → ms ≡ use_row file (suc row) ms row
     unfolding use_row
-    use-past l = rw (le-leb row_limit row l, or_true (row_marked ms row), use_row)
+    use_past l = rw (le-leb row_limit row l, or_true (row_marked ms row), use_row)
 
-    pub use-new : row_marked ms row ≡ false → row < row_limit →
+    pub use_new : row_marked ms row ≡ false → row < row_limit →
         (halves : Halves) → halves ≡ parts_of row (row_at file row) →
         (ls : List ℕ) → ls ≡ used_below (use_row file row) ms row halves.left →
         (rs : List ℕ) → rs ≡ used_below (use_row file row) ls row halves.right →
         set rs row 1 ≡ use_row file (suc row) ms row
     unfolding use_row
-    use-new unmarked room halves he ls le rs re =
+    use_new unmarked room halves he ls le rs re =
         rw (unmarked, lt-leb row_limit row room, use_row, ← he, ← le, ← re)
 
     pub below_taken : (x : ℕ) → x < row → use_row file (suc x) ms x ≡ used_below (use_row file row) ms row x

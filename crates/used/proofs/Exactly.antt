@@ -75,6 +75,7 @@ module _ (file : List ℕ) (P : Promised file) where
     pair_row : (x : ℕ) (R : Row) {X Y : paper.msg} → x < rows_of file → Keeps file x R → Unfolds (message file) R (paper.Pair X Y) →
         Sides (Marked ms) x R → Has ms X × Has ms Y
     pair_row x R l (pair a b) (as_pair {x = i} {y = j} p q) c = ((i.0, omega arith, p, c.0 a), (j.0, omega arith, q, c.1 b))
+    pair_row x _ l _ u c = elim u [ ]
 
     pair_has : {X Y : paper.msg} → Has ms (paper.Pair X Y) → Has ms X × Has ms Y
     pair_has (x, l, e, m) = pair_row x (row_at file x) l (P.keeps x l) (rw e at (P.unfolds x l)) (g.closed x m)
@@ -82,6 +83,7 @@ module _ (file : List ℕ) (P : Promised file) where
     crypt_row : (x : ℕ) (R : Row) {K : paper.key} {X : paper.msg} → x < rows_of file → Keeps file x R →
         Unfolds (message file) R (paper.Crypt K X) → Sides (Marked ms) x R → Has ms X
     crypt_row x R l (crypt b h) (as_crypt {x = y} p q) c = (y.0, omega arith, q, c.0 h)
+    crypt_row x _ l _ u c = elim u [ ]
 
     body_has : {K : paper.key} {X : paper.msg} → Has ms (paper.Crypt K X) → Has ms X
     body_has (x, l, e, m) = crypt_row x (row_at file x) l (P.keeps x l) (rw e at (P.unfolds x l)) (g.closed x m)

@@ -112,13 +112,13 @@ module _ (file : List ℕ) (n : ℕ) (few : n ≤ row_limit) (H : ℕ → Type 0
           row_same c g.0.room row (omega arith),
         )
 
-  use-cases : (d : ℕ) → Uses d → (ms : List ℕ) (row : ℕ) → length ms ≡ row_limit → row < n → H row → row ≤ d →
+  use_cases : (d : ℕ) → Uses d → (ms : List ℕ) (row : ℕ) → length ms ≡ row_limit → row < n → H row → row ≤ d →
       (row_marked ms row ≡ true) ⊎ (row_marked ms row ≡ false) →
       Grew ms (use_row file (suc d) ms row) × Marked (use_row file (suc d) ms row) row
   unfolding use_row
-  use-cases d uses ms row r l has h (inl m) = rw (m, use_row) (grew_still ms r, m)
-  use-cases d uses ms row r l has h (inr u) = rw (u, lt-leb row_limit row (omega arith), use_row) (with_grew d uses row l h ms r has)
+  use_cases d uses ms row r l has h (inl m) = rw (m, use_row) (grew_still ms r, m)
+  use_cases d uses ms row r l has h (inr u) = rw (u, lt-leb row_limit row (omega arith), use_row) (with_grew d uses row l h ms r has)
 
   pub uses : (d : ℕ) → Uses d
   uses zero ms row r l has h = absurd (omega arith)
-  uses (suc d) ms row r l has h = use-cases d (uses d) ms row r l has (omega arith) (bool_cases (row_marked ms row))
+  uses (suc d) ms row r l has h = use_cases d (uses d) ms row r l has (omega arith) (bool_cases (row_marked ms row))

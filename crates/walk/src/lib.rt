@@ -48,8 +48,8 @@ fn take_event(
     e: u16,
 )
     requires before { Before file.now e used.old rows.old keys.old boxes.old }
-    requires e_lt_event_limit { e < event_limit }
-    ensures before_2 { Before file.now (suc e) used.new rows.new keys.new boxes.new }
+    requires in_range { e < event_limit }
+    ensures after { Before file.now (suc e) used.new rows.new keys.new boxes.new }
     ensures kept { Kept rows.old rows.new }
 {
     used::use_event(file, used, EventNo(e));
@@ -69,15 +69,15 @@ fn advance(
     i: u16,
     events: u16,
 ) -> u16
-    requires i_lt_events { i < events }
-    requires events_le_event_limit { events ≤ event_limit }
+    requires in_range { i < events }
+    requires few_events { events ≤ event_limit }
     requires before { Before file.now i used.old rows.old keys.old boxes.old }
     requires sound_marks { SoundMarks file.now rows.old made.old }
     ensures value { result ≡ pace (rule_of file.now) (exchange_of file.now) events i }
     ensures rules_after { rules.new ≡
         paced (rule_of file.now) (exchange_of file.now) events i rules.old }
-    ensures before_2 { Before file.now (i + result) used.new rows.new keys.new boxes.new }
-    ensures sound_marks_2 { SoundMarks file.now rows.new made.new }
+    ensures after { Before file.now (i + result) used.new rows.new keys.new boxes.new }
+    ensures sound_after { SoundMarks file.now rows.new made.new }
 {
     let note = earlier::hear(file, i);
     let rule = lowest_rule(file, boxes, used, rows, made, i, note);

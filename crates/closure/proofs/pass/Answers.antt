@@ -8,9 +8,9 @@ pub returns-then-found : goal.returns-then-found
 returns-then-found c =
     let a = c.args in
     pass_found _ _ _ _ _ _ _ _ c.pass_up-found.ensures c.if-found.true c.pass_down.ensures ∙
-    c.reach-n.ensures.1 a.rows.now a.keys.now
+    c.reach-n.ensures.reaches a.rows.now a.keys.now
 
 pub returns-else-found : goal.returns-else-found
 returns-else-found c =
     let a = c.args in
-    pass_ended _ _ _ _ _ _ c.pass_up-found.ensures c.if-found.false ∙ c.reach-n.ensures.1 a.rows.now a.keys.now
+    pass_ended _ _ _ _ _ _ c.pass_up-found.ensures c.if-found.false ∙ c.reach-n.ensures.reaches a.rows.now a.keys.now

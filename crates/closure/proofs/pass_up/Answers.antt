@@ -1,10 +1,9 @@
 -- `closure::pass_up` meets its contract: one turn more is one row more of `up_rows`.
 -- Assumes nothing.
-use Prim.Native.Nat.{◌-◌}
-use mathlib.Core.Logic.{⊎_elim}
 use mathlib.Core.Path.{◌≡◌}
 use native.Mathlib.Omega.{arith}
 use Rattle.closure.proofs.Folds.{up_none, up_found, up_kept}
+use Rattle.closure.proofs.pass_up.Goals.{then-opened, else-opened}
 use Rattle.closure.proofs.pass_up.Goals as goal
 
 pub loop-r-init : goal.loop-r-init
@@ -18,8 +17,10 @@ loop-r-preserved c =
     let l = c.loop-r in
     let step = c.reopen-opened.ensures in (
       omega arith,
-      ⊎_elim (λ p. up_found _ l.r _ _ l.rows l.keys _ _ l.fresh l.invariant.1 step p.0.taken p.1)
-          (λ p. up_kept _ l.r _ _ l.rows l.keys _ _ l.fresh l.invariant.1 step p.0.left p.1) c.if-opened.branch,
+      elim c.if-opened.branch [
+        | then-opened w ↦ up_found _ l.r _ _ l.rows l.keys _ _ l.fresh l.invariant.1 step w.if-opened.true w.fresh-is
+        | else-opened w ↦ up_kept _ l.r _ _ l.rows l.keys _ _ l.fresh l.invariant.1 step w.if-opened.false w.fresh-is
+      ],
     )
 
 pub returns : goal.returns

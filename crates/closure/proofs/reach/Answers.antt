@@ -6,12 +6,12 @@ use Rattle.closure.proofs.reach.Goals as goal
 
 pub returns-then-n-gt-ROWS : goal.returns-then-n-gt-ROWS
 returns-then-n-gt-ROWS c = record {
-      upper_bound = omega arith;
-      reaches = reaches_marks c.args.file.now _ c.row_count-n.ensures c.if-n-gt-ROWS.true;
-    }
+  upper_bound = omega arith;
+  reaches = reaches_marks c.args.file.now _ c.row_count-n.ensures c.if-n-gt-ROWS.true;
+}
 
 pub returns-else-n-gt-ROWS : goal.returns-else-n-gt-ROWS
 returns-else-n-gt-ROWS c = record {
-      upper_bound = c.if-n-gt-ROWS.false;
-      reaches = reaches_all c.args.file.now _ c.row_count-n.ensures;
-    }
+  upper_bound = c.if-n-gt-ROWS.false;
+  reaches = reaches_all c.args.file.now _ c.row_count-n.ensures;
+}

@@ -13,4 +13,4 @@ returns-then-seen c =
 
 pub returns-else-seen : goal.returns-else-seen
 returns-else-seen c =
-    rw (← c.event_at-event.ensures, c.in-Notes.is, sym c.compromised-seen.ensures ∙ c.if-seen.false, see_event) (refl, refl)
+    rw (← c.event_at-event.ensures, c.in-Notes.is, sym c.compromised-seen.ensures ∙ c.if-seen.false, see_event) record { rows_after = refl; keys_after = refl }

@@ -5,6 +5,6 @@ use Rattle.closure.proofs.start.Goals as goal
 
 pub returns : goal.returns
 returns c = record {
-      keys_after = c.start_keys.ensures;
-      rows_after = rw (← c.start_keys.ensures, ← c.row_count.ensures) c.start_rows.ensures;
-    }
+  keys_after = c.start_keys.ensures;
+  rows_after = rw (← c.start_keys.ensures, ← c.row_count.ensures) c.start_rows.ensures;
+}

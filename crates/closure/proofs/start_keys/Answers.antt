@@ -1,6 +1,5 @@
 -- `closure::start_keys` meets its contract: one turn more is one agent more of `start_keys`.
 -- Assumes nothing.
-use Prim.Native.Nat.{◌-◌}
 use mathlib.Core.Path.{◌≡◌}
 use native.Mathlib.Omega.{arith}
 use Rattle.trace.specs.File.{agent_limit}

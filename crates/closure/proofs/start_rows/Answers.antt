@@ -1,6 +1,5 @@
 -- `closure::start_rows` meets its contract: one turn more is one row more of `start_rows`.
 -- Assumes nothing.
-use Prim.Native.Nat.{◌-◌}
 use mathlib.Core.Path.{◌≡◌}
 use native.Mathlib.Omega.{arith}
 use Rattle.closure.proofs.Folds.{rows_none, rows_more}

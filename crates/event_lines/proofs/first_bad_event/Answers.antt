@@ -1,8 +1,8 @@
 -- `event_lines::first_bad_event` meets its contract: no event passed is bad, and the one that it stops at is.
 -- Assumes nothing.
-use Prim.Native.Nat.{ℕ, ◌-◌}
-use mathlib.Core.Bool.{Bool, false, not}
-use mathlib.Core.Path.{◌≡◌, sym, ◌∙◌}
+use Prim.Native.Nat.{ℕ}
+use mathlib.Core.Bool.{Bool, not}
+use mathlib.Core.Path.{◌≡◌, ap, sym, ◌∙◌}
 use native.Mathlib.Omega.{arith}
 use borrow.Author.Count.{below_none, below_more}
 use Rattle.trace.specs.declared.events.Parts.{Parts}
@@ -23,7 +23,7 @@ returns-then-not-fits c =
     let l = c.loop-e in
     sym
     (first_found (bad_event a.file.now a.rows) a.events l.e c.loop-e-test.true
-    l.invariant.1 (tested a.rows c.parts_at.ensures c.event_fits-fits.ensures ∙ c.if-not-fits.true))
+    l.invariant.1 (tested a.rows c.parts_at.ensures c.event_fits-fits.ensures ∙ ap not c.if-not-fits.true))
 
 pub loop-e-preserved : goal.loop-e-preserved
 loop-e-preserved c =
@@ -31,7 +31,7 @@ loop-e-preserved c =
     let l = c.loop-e in (
       omega arith,
       below_more _ _ l.invariant.1
-          (tested a.rows c.parts_at.ensures c.event_fits-fits.ensures ∙ c.if-not-fits.false),
+          (tested a.rows c.parts_at.ensures c.event_fits-fits.ensures ∙ ap not c.if-not-fits.false),
     )
 
 pub returns : goal.returns

@@ -1,7 +1,7 @@
 -- `repeats::first_repeat` meets its contract: rows below r are chained by bucket and have their tags,
 -- and none of them is repeated. Assumes nothing.
-use Prim.Native.Nat.{ℕ, ◌-◌}
-use mathlib.Core.Bool.{Bool, false}
+use Prim.Native.Nat.{ℕ}
+use mathlib.Core.Bool.{Bool}
 use mathlib.Core.List.{List}
 use mathlib.Core.Path.{◌≡◌, sym, ◌∙◌, ap}
 use native.Mathlib.Omega.{arith}
@@ -26,7 +26,7 @@ pub in_chain-repeated-requires : goal.in_chain-repeated-requires
 in_chain-repeated-requires c =
     let l = c.loop-r in
     let low = l.invariant.1.low c.bucket-h.result in
-    (l.invariant.1.down, (tagged_fewer _ l.tags _ l.r low l.invariant.4, omega (arith, low)))
+    record { down = l.invariant.1.down; tagged = tagged_fewer _ l.tags _ l.r low l.invariant.4; head_in_range = omega (arith, low) }
 
 pub returns-then-repeated : goal.returns-then-repeated
 returns-then-repeated c =

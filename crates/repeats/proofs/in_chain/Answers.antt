@@ -13,10 +13,9 @@ loop-link-init c = (omega arith, λ s r e. r)
 
 pub same_row-same-requires : goal.same_row-same-requires
 same_row-same-requires c =
-    let start = c.before in
     let link = c.loop-link.link in record {
-      row_lt_row_limit = omega arith;
-      row_value = start.requires.1.0 (link - 1) (omega arith);
+      in_range = omega arith;
+      tag_kept = c.requires.tagged (link - 1) (omega arith);
     }
 
 pub returns-then-same : goal.returns-then-same
@@ -29,17 +28,15 @@ returns-then-same c =
 
 pub loop-link-smaller : goal.loop-link-smaller
 loop-link-smaller c =
-    let start = c.before in
     let link = c.loop-link.link in
-    omega (arith, start.requires.0 (link - 1))
+    omega (arith, c.requires.down (link - 1))
 
 pub loop-link-preserved : goal.loop-link-preserved
 loop-link-preserved c =
-    let start = c.before in
     let l = c.loop-link in
-    let other = differ start.args.f refl c.same_row-same.ensures c.if-same.false in (
-      omega (arith, start.requires.0 (l.link - 1)),
-      λ s r e. reach_next start.args.file.now _ start.args.f l.link s other e (l.invariant.1 s r e),
+    let other = differ c.args.f refl c.same_row-same.ensures c.if-same.false in (
+      omega (arith, c.requires.down (l.link - 1)),
+      λ s r e. reach_next c.args.file.now _ c.args.f l.link s other e (l.invariant.1 s r e),
     )
 
 pub returns : goal.returns

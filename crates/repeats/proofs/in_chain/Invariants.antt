@@ -1,6 +1,6 @@
 -- `repeats::in_chain` meets its contract: a row of the chain that has the fields is still ahead, and none is left at the end.
 -- Links fall, so the loop ends. Assumes nothing.
-use Prim.Native.Nat.{ℕ, ◌≤◌, ◌-◌}
+use Prim.Native.Nat.{ℕ, ◌≤◌}
 use mathlib.Core.Path.{◌≡◌}
 use Rattle.trace.specs.Rows.{fields_at}
 use Rattle.repeats.specs.Chain.{Reach}

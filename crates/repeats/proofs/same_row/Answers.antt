@@ -19,9 +19,8 @@ tested h e t = t ∙ ap (λ (f : Fields). same_fields f h) e
 
 pub returns-then-tags-row : goal.returns-then-tags-row
 returns-then-tags-row c =
-    let start = c.before in
-    let a = start.args in
-    other (fields_at a.file.now a.row) a.f start.requires.1 c.tag-wanted.ensures c.if-tags-row.true
+    let a = c.args in
+    other (fields_at a.file.now a.row) a.f c.requires.tag_kept c.tag-wanted.ensures c.if-tags-row.true
 
 pub returns : goal.returns
 returns c =

@@ -1,7 +1,6 @@
 -- `row_lines::first_bad_row` meets its contract: no row passed is bad, and the one that it stops at is.
 -- Assumes nothing.
-use Prim.Native.Nat.{◌-◌}
-use mathlib.Core.Bool.{false, not}
+use mathlib.Core.Bool.{not}
 use mathlib.Core.Path.{◌≡◌, ap, sym, ◌∙◌}
 use native.Mathlib.Omega.{arith}
 use borrow.Author.Count.{below_none, below_more}
@@ -18,12 +17,12 @@ returns-then-not-fits c =
     let l = c.loop-row in
     sym
     (first_found (bad_row a.file.now) a.rows l.row c.loop-row-test.true l.invariant.1
-    (ap not (sym c.row_fits-fits.ensures) ∙ c.if-not-fits.true))
+    (ap not (sym c.row_fits-fits.ensures ∙ c.if-not-fits.true)))
 
 pub loop-row-preserved : goal.loop-row-preserved
 loop-row-preserved c =
     let l = c.loop-row in
-    (omega arith, below_more _ _ l.invariant.1 (ap not (sym c.row_fits-fits.ensures) ∙ c.if-not-fits.false))
+    (omega arith, below_more _ _ l.invariant.1 (ap not (sym c.row_fits-fits.ensures ∙ c.if-not-fits.false)))
 
 pub returns : goal.returns
 returns c =

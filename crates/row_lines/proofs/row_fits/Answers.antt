@@ -39,9 +39,8 @@ returns-in-9 c =
 pub returns-in-2-to-3 : goal.returns-in-2-to-3
 returns-in-2-to-3 c =
     let a = c.args in
-    let k = c.in_default-1.rest in
     c.nonce_line.ensures ∙
-    sym (line_nonce a.file.now a.r _ (omega (arith, k.0.0.0.0.1, k.0.0.0.1)) (omega arith)) ∙
+    sym (line_nonce a.file.now a.r _ (omega arith) (omega arith)) ∙
     ap (line_of a.file.now a.r) c.fields_at-f.ensures
 
 pub returns-in-4-to-6 : goal.returns-in-4-to-6
@@ -54,6 +53,5 @@ returns-in-4-to-6 c =
 pub returns-in_default : goal.returns-in_default
 returns-in_default c =
     let a = c.args in
-    let k = c.in_default-1.rest in
-    sym (line_none a.file.now a.r _ c.if-kind-lt7.false k.0.0.1 k.0.1 k.1) ∙
+    sym (line_none a.file.now a.r _ (omega arith) (λ e. omega arith) (λ e. omega arith) (λ e. omega arith)) ∙
     ap (line_of a.file.now a.r) c.fields_at-f.ensures
