@@ -3,7 +3,7 @@
  *
  * Three questions over lent bytes. Each is one call that reads the file, writes at most the lent buffer, returns one
  * number, and keeps nothing: there is no state, no heap, no input or output, and no pointer is held after the return.
- * The archive is target/staticlib/libcabi.a (`rt staticlib cabi`), for x86-64 Linux; of the C library it needs memset alone.
+ * The archive is target/staticlib/libcabi.a (`tools/archive`), for x86-64 Linux; of the C library it needs memset alone.
  *
  * The file is laid out byte by byte in docs/FORMAT.md: 20 bytes of contents, 8 bytes for each row, 8 bytes for each
  * event; at most 1,024 rows and 512 events, so at most 12,308 bytes. Every byte string of every length is a valid

@@ -1,7 +1,7 @@
 /* The stack that each question takes on the trace on standard input: it runs on a thread whose stack was filled with a pattern,
    and the bytes that changed are counted, less those of an empty thread. Not a test.
 
-       rt staticlib cabi
+       tools/archive
        x86_64-linux-gnu-gcc -O2 -static -pthread -Iinclude -o stack tools/stack.c target/staticlib/libcabi.a
        qemu-x86_64 stack <FILE          (or, on x86-64, ./stack <FILE) */
 #define _GNU_SOURCE

@@ -1,4 +1,4 @@
-//! Links the archive that `rt staticlib cabi` writes; MIRZHELO_ARCHIVE names another folder.
+//! Links the archive that `tools/archive` writes; MIRZHELO_ARCHIVE names another folder.
 fn main() {
     let here = std::env::var("CARGO_MANIFEST_DIR").expect("cargo sets it");
     let folder = std::env::var("MIRZHELO_ARCHIVE").unwrap_or(format!("{here}/../../target/staticlib"));
