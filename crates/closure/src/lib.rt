@@ -182,7 +182,8 @@ fn reopen(file: &[u8], rows: &mut [u8; ROW_LIMIT], keys: &mut [u8; KEYS], r: u16
         return false;
     }
     let kind = kind_at(file, r);
-    if kind != CRYPT {
+    let other = kind != CRYPT;
+    if other {
         return false;
     }
     let f = fields_at(file, r);
@@ -270,6 +271,7 @@ fn see(file: &[u8], rows: &mut [u8; ROW_LIMIT], keys: &mut [u8; KEYS], row: u16)
 }
 
 // An event is seen if it is a Says, or a Notes of a compromised agent.
+#[tactic(auto, unfolding(crate::specs::Closure::see_event))]
 pub fn see_event(file: &[u8], rows: &mut [u8; ROW_LIMIT], keys: &mut [u8; KEYS], e: EventNo)
     ensures rows_after { rows.new ≡
         (see_event file.now rows.old keys.old (event_at file.now e.0)).rows }

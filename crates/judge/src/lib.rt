@@ -25,7 +25,8 @@ fn verdict_readable(file: &[u8], rules: &mut [u8]) -> Verdict
     }
     walk::clear(rules, events);
     let n = walk::walk_events(file, rules);
-    if n < events {
+    let stopped = n < events;
+    if stopped {
         Verdict::Illegal(n)
     } else {
         Verdict::Accepted(n)

@@ -17,6 +17,8 @@ use trace::{AgentNo, Cause, EventNo, Reading, RowNo};
 
 const VERSION: u16 = 1;
 
+const RESERVED: u16 = 0;
+
 const SPY: AgentNo = AgentNo(0);
 
 const AUTHORITY: AgentNo = AgentNo(1);
@@ -60,14 +62,15 @@ fn read_contents(file: &[u8]) -> Reading
 pub fn read(file: &[u8]) -> Reading
     ensures { result ≡ reading file.now }
 {
-    if file.len() < ROWS_AT {
+    let too_short = file.len() < ROWS_AT;
+    if too_short {
         return Reading::Refused(Cause::TooShort);
     }
     let h = header_of(file);
     if h.version != VERSION {
         return Reading::Refused(Cause::WrongVersion);
     }
-    if h.reserved != 0 {
+    if h.reserved != RESERVED {
         return Reading::Refused(Cause::WrongVersion);
     }
     let spy = trace::compromised(file, SPY);
@@ -78,7 +81,8 @@ pub fn read(file: &[u8]) -> Reading
     if authority {
         return Reading::Refused(Cause::WrongSet);
     }
-    if ROWS < h.rows {
+    let too_many = ROWS < h.rows;
+    if too_many {
         return Reading::Refused(Cause::WrongContents);
     }
     read_contents(file)

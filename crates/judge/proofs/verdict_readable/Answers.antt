@@ -10,23 +10,23 @@ returns-then-rules-events c =
       rules_after = g.1;
     }
 
-pub returns-then-n-events : goal.returns-then-n-events
-returns-then-n-events c =
+pub returns-then-stopped : goal.returns-then-stopped
+returns-then-stopped c =
     let walked = c.walk_events-n.ensures in
     let g =
     illegal_reply _ _ c.event_count-events.ensures c.if-rules-events.false c.clear.ensures
-    (walked.value, walked.rules_after) c.if-n-events.true
+    (walked.value, walked.rules_after) c.if-stopped.true
     in record {
       value = g.0;
       rules_after = g.1;
     }
 
-pub returns-else-n-events : goal.returns-else-n-events
-returns-else-n-events c =
+pub returns-else-stopped : goal.returns-else-stopped
+returns-else-stopped c =
     let walked = c.walk_events-n.ensures in
     let g =
     accepted_reply _ _ c.event_count-events.ensures c.if-rules-events.false c.clear.ensures
-    (walked.value, walked.rules_after) c.if-n-events.false
+    (walked.value, walked.rules_after) c.if-stopped.false
     in record {
       value = g.0;
       rules_after = g.1;

@@ -47,42 +47,42 @@ to-contents : (file : List ℕ) → rows_from ≤ length file → wrong_version 
 unfolding reading
 to-contents file l v s = rw (le-ltb (length file) rows_from l, v, s) refl
 
-pub returns-then-file-lt-ROWS_AT : goal.returns-then-file-lt-ROWS_AT
-returns-then-file-lt-ROWS_AT c = sym (reading_short c.args.file.now c.if-file-lt-ROWS_AT.true)
+pub returns-then-too_short : goal.returns-then-too_short
+returns-then-too_short c = sym (reading_short c.args.file.now c.if-too_short.true)
 
 pub returns-then-h-ne-VERSION : goal.returns-then-h-ne-VERSION
-returns-then-h-ne-VERSION c = sym (reading_version c.args.file.now c.if-file-lt-ROWS_AT.false (other-version c.header_of-h.ensures c.if-h-ne-VERSION.true))
+returns-then-h-ne-VERSION c = sym (reading_version c.args.file.now c.if-too_short.false (other-version c.header_of-h.ensures c.if-h-ne-VERSION.true))
 
-pub returns-then-h-ne0 : goal.returns-then-h-ne0
-returns-then-h-ne0 c = sym (reading_version c.args.file.now c.if-file-lt-ROWS_AT.false (other-reserved c.header_of-h.ensures c.if-h-ne-VERSION.false c.if-h-ne0.true))
+pub returns-then-h-ne-RESERVED : goal.returns-then-h-ne-RESERVED
+returns-then-h-ne-RESERVED c = sym (reading_version c.args.file.now c.if-too_short.false (other-reserved c.header_of-h.ensures c.if-h-ne-VERSION.false c.if-h-ne-RESERVED.true))
 
 pub returns-then-not-spy : goal.returns-then-not-spy
 returns-then-not-spy c =
     let file = c.args.file.now in
     sym
-    (reading_set file c.if-file-lt-ROWS_AT.false (right-version c.header_of-h.ensures c.if-h-ne-VERSION.false c.if-h-ne0.false) (no-spy file c.compromised-spy.ensures c.if-not-spy.true))
+    (reading_set file c.if-too_short.false (right-version c.header_of-h.ensures c.if-h-ne-VERSION.false c.if-h-ne-RESERVED.false) (no-spy file c.compromised-spy.ensures c.if-not-spy.true))
 
 pub returns-then-authority : goal.returns-then-authority
 returns-then-authority c =
     let file = c.args.file.now in
     sym
-    (reading_set file c.if-file-lt-ROWS_AT.false (right-version c.header_of-h.ensures c.if-h-ne-VERSION.false c.if-h-ne0.false)
+    (reading_set file c.if-too_short.false (right-version c.header_of-h.ensures c.if-h-ne-VERSION.false c.if-h-ne-RESERVED.false)
     (lost-authority file c.compromised-spy.ensures c.if-not-spy.false c.compromised-authority.ensures c.if-authority.true))
 
-pub returns-then-h-gt-ROWS : goal.returns-then-h-gt-ROWS
-returns-then-h-gt-ROWS c =
+pub returns-then-too_many : goal.returns-then-too_many
+returns-then-too_many c =
     let file = c.args.file.now in
     sym
-    (reading_contents file c.if-file-lt-ROWS_AT.false (right-version c.header_of-h.ensures c.if-h-ne-VERSION.false c.if-h-ne0.false)
+    (reading_contents file c.if-too_short.false (right-version c.header_of-h.ensures c.if-h-ne-VERSION.false c.if-h-ne-RESERVED.false)
     (right-set file c.compromised-spy.ensures c.if-not-spy.false c.compromised-authority.ensures c.if-authority.false)
-    (many-rows c.header_of-h.ensures (length file) c.if-h-gt-ROWS.true))
+    (many-rows c.header_of-h.ensures (length file) c.if-too_many.true))
 
 pub returns : goal.returns
 returns c =
     let file = c.args.file.now in
     c.read_contents.ensures ∙
-    to-contents file c.if-file-lt-ROWS_AT.false (right-version c.header_of-h.ensures c.if-h-ne-VERSION.false c.if-h-ne0.false)
+    to-contents file c.if-too_short.false (right-version c.header_of-h.ensures c.if-h-ne-VERSION.false c.if-h-ne-RESERVED.false)
     (right-set file c.compromised-spy.ensures c.if-not-spy.false c.compromised-authority.ensures c.if-authority.false)
 
 pub read_contents-requires : goal.read_contents-requires
-read_contents-requires c = rw c.header_of-h.ensures at c.if-h-gt-ROWS.false
+read_contents-requires c = rw c.header_of-h.ensures at c.if-too_many.false

@@ -5,11 +5,5 @@ use native.Mathlib.Omega.{arith}
 use lib.ListN.{get_or-eq_default}
 use Rattle.trace.proofs.bytes.byte_at.Goals as goal
 
-pub overflow_cast-result : goal.overflow_cast-result
-overflow_cast-result c = omega (arith, c.shared_slice_known-1.given c.args.at)
-
-pub returns-then-at-file : goal.returns-then-at-file
-returns-then-at-file c = omega (arith, c.shared_slice_known-1.given c.args.at)
-
 pub returns-else-at-file : goal.returns-else-at-file
 returns-else-at-file c = (rw (get_or-eq_default c.args.file.now 0 c.if-at-file.false) refl, omega arith)
