@@ -170,8 +170,8 @@ module _ (file boxes : List ℕ) (e : ℕ) (x : Linked file boxes e) (few : e < 
   old_kept : (j : ℕ) → j < e → (s : ℕ) × Reach boxes' (get_or boxes' (box_of (heard_at file j)) 0) s × (heard_at file s ≡ heard_at file j)
   old_kept j l =
       let k = x.kept j l in
-      let j-box = box_of (heard_at file j) in
-      (k.0, old_reach j-box k.0 (box_room_lem (heard_at file j)) k.1 (ℕ_discrete j-box b), k.2)
+      let j_box = box_of (heard_at file j) in
+      (k.0, old_reach j_box k.0 (box_room_lem (heard_at file j)) k.1 (ℕ_discrete j_box b), k.2)
 
   new_kept : (s : ℕ) × Reach boxes' (get_or boxes' b 0) s × (heard_at file s ≡ heard_at file e)
   new_kept = (e, rw new_head (here refl), refl)

@@ -89,12 +89,12 @@ module _ (look : Look) (X H R N : Card) where
 
   of_third : (x h r : Bool) → (r ≡ true → x ≡ false) → (r ≡ true → h ≡ false) → fits_card look X ≡ false → fits_card look H ≡ false →
       fits_card look N ≡ false → (r && fits_card look R) ≡ fits_card look (card x h r)
-  of_third true h true no-x no-h p q n = absurd (true≢false (no-x refl))
-  of_third true h false no-x no-h p q n = sym p
-  of_third false true true no-x no-h p q n = absurd (true≢false (no-h refl))
-  of_third false true false no-x no-h p q n = sym q
-  of_third false false true no-x no-h p q n = refl
-  of_third false false false no-x no-h p q n = sym n
+  of_third true h true no_x no_h p q n = absurd (true≢false (no_x refl))
+  of_third true h false no_x no_h p q n = sym p
+  of_third false true true no_x no_h p q n = absurd (true≢false (no_h refl))
+  of_third false true false no_x no_h p q n = sym q
+  of_third false false true no_x no_h p q n = refl
+  of_third false false false no_x no_h p q n = sym n
 
 -- a Crypt has its own shape
 not_crypt : (look : Look) (c : Two) (s : Signed) (k : One) → eqb 5 look.shape ≡ false → fits_card look (crypt_card c s k) ≡ false

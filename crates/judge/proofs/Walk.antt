@@ -107,7 +107,7 @@ module _ (file : List ℕ) where
       (fits : (i : ℕ) → i < events_of file → 0 < rule i → Fits file i (rule i) × ((j : ℕ) → Fits file i j → rule i ≤ j))
       (none : (i : ℕ) → i < events_of file → rule i ≡ 0 → (k : ℕ) → ¬ Fits file i k)
       (six : (i : ℕ) → suc i < events_of file → exchanges i ≡ true → Exchanged file i)
-      (not-six : (i : ℕ) → suc i < events_of file → exchanges i ≡ false → ¬ Exchanged file i) where
+      (not_six : (i : ℕ) → suc i < events_of file → exchanges i ≡ false → ¬ Exchanged file i) where
     abbrev N : ℕ
     N = events_of file
 
@@ -176,7 +176,7 @@ module _ (file : List ℕ) where
           (elim (ltb (suc i) N && exchanges i)
           [ true ↦ walk rule exchanges N d (suc (suc i)) (set (set bytes i 6) (suc i) 6) | false ↦ walked_to i bytes ])
       ends_six l z (yes h) (inl t) = rw (lt-ltb (suc i) N h, t) (ends_two h t)
-      ends_six l z (yes h) (inr t) = rw (lt-ltb (suc i) N h, t) (ends_stuck l z (λ _. not-six i h t))
+      ends_six l z (yes h) (inr t) = rw (lt-ltb (suc i) N h, t) (ends_stuck l z (λ _. not_six i h t))
       ends_six l z (no h) e = rw (le-ltb (suc i) N (omega arith)) (ends_stuck l z (λ m. absurd (h m)))
 
       ends : Dec (i < N) → Dec (0 < rule i) → Ended i bytes (walk rule exchanges N (suc d) i bytes)

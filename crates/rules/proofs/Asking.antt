@@ -113,17 +113,17 @@ module _ (file known : List ℕ) where
         abbrev go : List ℕ → ℕ → Made
         go = make_row file known row
 
-        module _ (not-leaf : parts.leaf ≡ false) (ls : List ℕ) (l : Bool) (left : told ls l ≡ made_below go ms row parts.left) where
+        module _ (not_leaf : parts.leaf ≡ false) (ls : List ℕ) (l : Bool) (left : told ls l ≡ made_below go ms row parts.left) where
           sides : make_then go row parts.right (told ls l) ≡ make_row file known (suc row) ms row
           unfolding make_row
-          sides = rw (unknown, unmarked, lt-leb row_limit row room, make_row, ← parted, not-leaf) (ap (make_then go row parts.right) left)
+          sides = rw (unknown, unmarked, lt-leb row_limit row room, make_row, ← parted, not_leaf) (ap (make_then go row parts.right) left)
 
           pub make_no_left : not l ≡ true → told ls false ≡ make_row file known (suc row) ms row
           make_no_left e = then_no go row parts.right ls l e ∙ sides
 
-          module _ (is-left : not l ≡ false) (rs : List ℕ) (r : Bool) (right : told rs r ≡ made_below go ls row parts.right) where
+          module _ (is_left : not l ≡ false) (rs : List ℕ) (r : Bool) (right : told rs r ≡ made_below go ls row parts.right) where
             last : made_last row (told rs r) ≡ make_row file known (suc row) ms row
-            last = ap (made_last row) right ∙ then_last go row parts.right ls l is-left ∙ sides
+            last = ap (made_last row) right ∙ then_last go row parts.right ls l is_left ∙ sides
 
             pub make_no_right : not r ≡ true → told rs false ≡ make_row file known (suc row) ms row
             make_no_right e = last_no go row parts.right rs r e ∙ last

@@ -38,21 +38,21 @@ module _ (file : List ℕ) where
         unfolding reading
         reading_items w = simp (le-ltb (length file) rows_from long, v, s, w)
 
-  module _ (rows events bad : ℕ) (is-bad : bad ≡ first (bad_row file) rows) where
+  module _ (rows events bad : ℕ) (is_bad : bad ≡ first (bad_row file) rows) where
     pub items_row : bad < rows → read_items file rows events ≡ Refused (BadRow (record { 0 = bad }))
     unfolding read_items
-    items_row l = simp (← is-bad, lt-ltb bad rows l)
+    items_row l = simp (← is_bad, lt-ltb bad rows l)
 
-    module _ (repeat : ℕ) (fine : rows ≤ bad) (is-repeat : repeat ≡ first (repeated_row file) rows) where
+    module _ (repeat : ℕ) (fine : rows ≤ bad) (is_repeat : repeat ≡ first (repeated_row file) rows) where
       pub items_repeat : repeat < rows → read_items file rows events ≡ Refused (RepeatedRow (record { 0 = repeat }))
       unfolding read_items
-      items_repeat l = simp (← is-bad, ← is-repeat, le-ltb bad rows fine, lt-ltb repeat rows l)
+      items_repeat l = simp (← is_bad, ← is_repeat, le-ltb bad rows fine, lt-ltb repeat rows l)
 
       module _ (odd : ℕ) (apart : rows ≤ repeat) (is_odd : odd ≡ first (bad_event file rows) events) where
         pub items_event : odd < events → read_items file rows events ≡ Refused (BadEvent (record { 0 = odd }))
         unfolding read_items
-        items_event l = simp (← is-bad, ← is-repeat, ← is_odd, le-ltb bad rows fine, le-ltb repeat rows apart, lt-ltb odd events l)
+        items_event l = simp (← is_bad, ← is_repeat, ← is_odd, le-ltb bad rows fine, le-ltb repeat rows apart, lt-ltb odd events l)
 
         pub items_readable : events ≤ odd → read_items file rows events ≡ Readable
         unfolding read_items
-        items_readable l = simp (← is-bad, ← is-repeat, ← is_odd, le-ltb bad rows fine, le-ltb repeat rows apart, le-ltb odd events l)
+        items_readable l = simp (← is_bad, ← is_repeat, ← is_odd, le-ltb bad rows fine, le-ltb repeat rows apart, le-ltb odd events l)

@@ -53,10 +53,10 @@ module _ {p : ℕ → Bool} {P : ℕ → Type 0} (d : Decides p P) where
 
   -- what is nowhere the lowest is nowhere
   pub lowest_none : (n : ℕ) → ((k : ℕ) → ¬ Lowest P n k) → None p n
-  lowest_none n not-lowest = go (find p n)
+  lowest_none n not_lowest = go (find p n)
     where
       go : Found p n → None p n
-      go (inl (k, l, t, h)) = absurd (not-lowest k (lowest n k l t h))
+      go (inl (k, l, t, h)) = absurd (not_lowest k (lowest n k l t h))
       go (inr none) = none
 
 lowest_one : (P : ℕ → Type 0) (n j k : ℕ) → Lowest P n j → Lowest P n k → j ≡ k
@@ -141,11 +141,11 @@ module _ (file : List ℕ) where
             (items ∙
             items_event file (rows_of file) (events_of file) _ bad_rows _ (omega arith) repeats k (omega arith) (sym (first_found (bad_event file (rows_of file)) _ k l h t)) l)
             (refused (event (lowest events_decided _ k l t h)) none)
-        told_event none (inr fit-events) =
+        told_event none (inr fit_events) =
             rw
             (items ∙
-            items_readable file (rows_of file) (events_of file) _ bad_rows _ (omega arith) repeats _ (omega arith) (sym (first_none (bad_event file (rows_of file)) _ fit-events)) (omega arith))
-            (readable (λ c w. none_more 7 none (not_event fit-events) c (wrong_number w) w))
+            items_readable file (rows_of file) (events_of file) _ bad_rows _ (omega arith) repeats _ (omega arith) (sym (first_none (bad_event file (rows_of file)) _ fit_events)) (omega arith))
+            (readable (λ c w. none_more 7 none (not_event fit_events) c (wrong_number w) w))
 
       told_repeat : NoneBelow 6 → Found (repeated_row file) (rows_of file) → Told file (reading file)
       told_repeat none (inl (r, l, t, h)) =
