@@ -1,4 +1,5 @@
--- What a turn read follows what was read before it.
+-- `bench::read_full` meets its contract: what a turn reads follows what was read before it.
+-- Assumes nothing.
 use Rattle.std.proofs.Common.{◌≡◌, ℕ, ◌+◌, ◌≤◌, List, ◌++◌, length, take, drop, ap, sym, ◌∙◌, subst, arith, le_refl, drop_at, length-take-le, take-add}
 use Rattle.std.specs.Io.KnownBytes.{Consumes}
 use Rattle.std.proofs.KnownBytes.{Consumes-trans}

@@ -1,4 +1,5 @@
 -- `bench::read_full` ends: each turn but the last reads a byte or more. What stands before `size` was read.
+-- Assumes nothing.
 use Rattle.std.proofs.Common.{◌≤◌, ◌-◌, length, take}
 use Rattle.std.specs.Io.KnownBytes.{Consumes}
 use Rattle.bench.proofs.read_full.Given as goal
