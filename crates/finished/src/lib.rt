@@ -32,6 +32,7 @@ fn with_prf(is: bool, m: Sealed, p: Three) -> bool
 }
 
 // Rule 8: ClientFinished.
+#[tactic(auto, unfolding(crate::specs::Tests::client_finished))]
 pub fn client_finished(file: &[u8], boxes: &[u16; BOX_ROOM], h: Heard) -> bool
     ensures { result ≡ client_finished file.now (found file.now boxes.now) h }
 {
@@ -69,6 +70,7 @@ pub fn client_finished(file: &[u8], boxes: &[u16; BOX_ROOM], h: Heard) -> bool
 }
 
 // Rule 9: ServerFinished.
+#[tactic(auto, unfolding(crate::specs::Tests::server_finished))]
 pub fn server_finished(file: &[u8], boxes: &[u16; BOX_ROOM], h: Heard) -> bool
     ensures { result ≡ server_finished file.now (found file.now boxes.now) h }
 {
@@ -102,6 +104,7 @@ pub fn server_finished(file: &[u8], boxes: &[u16; BOX_ROOM], h: Heard) -> bool
 }
 
 // Rule 12: ClientResume.
+#[tactic(auto, unfolding(crate::specs::Tests::client_resume))]
 pub fn client_resume(file: &[u8], boxes: &[u16; BOX_ROOM], h: Heard) -> bool
     ensures { result ≡ client_resume file.now (found file.now boxes.now) h }
 {
@@ -137,6 +140,7 @@ pub fn client_resume(file: &[u8], boxes: &[u16; BOX_ROOM], h: Heard) -> bool
 }
 
 // Rule 13: ServerResume.
+#[tactic(auto, unfolding(crate::specs::Tests::server_resume))]
 pub fn server_resume(file: &[u8], boxes: &[u16; BOX_ROOM], h: Heard) -> bool
     ensures { result ≡ server_resume file.now (found file.now boxes.now) h }
 {

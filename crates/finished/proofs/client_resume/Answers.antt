@@ -1,4 +1,5 @@
--- `finished::client_resume` meets its contract: each test that fails settles the conjunction.
+-- `finished::client_resume` meets its contract: the definition, opened, is its tests in their order; where all pass the last call says the rest, and a row that is
+-- not sealed has nothing to test.
 -- Assumes nothing.
 use mathlib.Core.Bool.{false}
 use mathlib.Core.Path.{refl, sym, ◌∙◌}
@@ -21,54 +22,7 @@ returns-then-reply c =
     )
     c.happened.ensures
 
-pub returns-else-reply : goal.returns-else-reply
-unfolding client_resume
-returns-else-reply c =
-    rw (
-      c.if-h.true,
-      ← c.finished-m.ensures,
-      ← c.said_by_client-fits.ensures,
-      c.if-fits.true,
-      ← c.happened-hello.ensures,
-      c.if-hello.true,
-      ← c.happened-reply.ensures,
-      c.if-reply.false,
-    )
-    refl
-
-pub returns-else-hello : goal.returns-else-hello
-unfolding client_resume
-returns-else-hello c =
-    rw (
-      c.if-h.true,
-      ← c.finished-m.ensures,
-      ← c.said_by_client-fits.ensures,
-      c.if-fits.true,
-      ← c.happened-hello.ensures,
-      c.if-hello.false,
-    )
-    refl
-
-pub returns-else-fits : goal.returns-else-fits
-unfolding client_resume
-returns-else-fits c =
-    rw (
-      c.if-h.true,
-      ← c.finished-m.ensures,
-      ← c.said_by_client-fits.ensures,
-      c.if-fits.false,
-    )
-    refl
-
 pub returns-else-own : goal.returns-else-own
 unfolding client_resume
 returns-else-own c =
-    rw (
-      c.if-h.true,
-      unsealed _ _ false (sym c.under_key-own.ensures ∙ c.if-own.false),
-    )
-    refl
-
-pub returns-else-h : goal.returns-else-h
-unfolding client_resume
-returns-else-h c = rw c.if-h.false refl
+    rw (c.if-h.true, unsealed _ _ false (sym c.under_key-own.ensures ∙ c.if-own.false)) refl
