@@ -12,21 +12,19 @@ use trace::limits::ROWS_AT;
 use trace::{Cause, EventNo, RowNo};
 
 // The rows and events of a file whose contents part is right.
-#[tactic(auto, using(repeats::proofs::Chain::first_few), unfolding(trace::specs::Reading::read_items))]
+#[tactic(auto, using(repeats::proofs::Chain::first_few), unfolding(trace::specs::Reading::read_items, laws::specs::First::found))]
 fn read_items(file: &[u8], rows: u16, events: u16) -> Result<(), Cause>
     requires { rows ≤ row_limit }
     ensures { result ≡ read_items file.now rows events }
 {
-    let bad = row_lines::first_bad_row(file, rows);
-    if bad < rows {
+    if let Some(bad) = row_lines::first_bad_row(file, rows) {
         return Err(Cause::BadRow(RowNo(bad)));
     }
     let repeated = repeats::first_repeated_row(file, rows);
     if repeated < rows {
         return Err(Cause::RepeatedRow(RowNo(repeated)));
     }
-    let event = event_lines::first_bad_event(file, rows, events);
-    if event < events {
+    if let Some(event) = event_lines::first_bad_event(file, rows, events) {
         return Err(Cause::BadEvent(EventNo(event)));
     }
     Ok(())

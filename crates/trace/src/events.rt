@@ -6,7 +6,7 @@ use super::header::rows_of;
 use super::limits::{ITEM, ROWS_AT};
 use super::{AgentNo, Event, RowNo, bytes};
 
-#[derive(Clone, Copy)]
+#[derive(Clone, Copy, PartialEq, Eq, Debug)]
 pub struct Parts {
     pub kind: u16,
     pub sender: u16,
@@ -16,22 +16,12 @@ pub struct Parts {
     pub rest: u16,
 }
 
-// One test of the bound for the eight bytes; an event past the end of the file has zeros there.
+// An event past the end of the file has zeros there.
 pub fn parts_at(file: &[u8], e: u16) -> Parts
     ensures { result ≡ parts_at file.now e }
 {
     let rows = rows_of(file);
-    let at = ROWS_AT + ITEM * (rows as usize) + ITEM * (e as usize);
-    if at + ITEM <= file.len() {
-        return Parts {
-            kind: bytes::byte_in(file, at),
-            sender: bytes::byte_in(file, at + 1),
-            receiver: bytes::byte_in(file, at + 2),
-            zero: bytes::byte_in(file, at + 3),
-            row: bytes::word_in(file, at + 4),
-            rest: bytes::word_in(file, at + 6),
-        };
-    }
+    let at = ROWS_AT + ITEM * usize::from(rows) + ITEM * usize::from(e);
     Parts {
         kind: bytes::byte_at(file, at),
         sender: bytes::byte_at(file, at + 1),
