@@ -24,10 +24,9 @@ use Rattle.closure.specs.Closure.{known_after}
 use Rattle.spy.specs.Knowledge.{Mark, analysed, made, neither, Marks, Knows, refused, short, many, written, SeenIn, answer_number, answer_place}
 use Rattle.spy.specs.Reply.{marks_after, answer_readable, bytes_readable}
 use Rattle.spy.specs.Promises.{OneAnswer, Line, told, eight, nine, Refuses}
-use Rattle.spy.proofs.Sweep.{marks_length}
 use Rattle.closure.proofs.Exact.{marks_analysed}
 use Rattle.closure.proofs.Starting.{good_after}
-use Rattle.spy.proofs.Makes.{marks_right, marks_rest}
+use Rattle.spy.proofs.Makes.{marks_length, marks_right, marks_rest}
 
 -- the marks, for a file that is not refused
 marks_after_lem : (file : List ℕ) → Promised file → (n : ℕ) → n ≤ events_of file → (before : List ℕ) → rows_of file ≤ length before →
