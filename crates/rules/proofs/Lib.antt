@@ -4,4 +4,3 @@ pub mod Making
 pub mod Asking
 pub mod Growing
 pub mod Carried
-pub mod Branches

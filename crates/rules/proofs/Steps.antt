@@ -1,7 +1,7 @@
 -- The rules of one message: each test passes exactly when the paper's rule puts the event on the trace so far.
 -- Assumes nothing.
 use Prim.Native.Nat.{ℕ, ◌<◌}
-use mathlib.Core.Bool.{Bool, true, false, not, ◌&&◌, true≢false}
+use mathlib.Core.Bool.{true, not, ◌&&◌, true≢false}
 use mathlib.Core.List.{List}
 use mathlib.Core.Path.{◌≡◌, refl, sym, ◌∙◌, ap}
 use lib.Dec.{eqb}
@@ -43,10 +43,6 @@ reply_same : {N N' : paper.nonce} {S Q : ℕ} → N ≡ N' → SH N S Q ≡ SH N
 reply_same n = rw n refl
 
 module _ (file : List ℕ) (P : Promised file) (e : ℕ) (le : e < events_of file) where
-  pub not_flipped : (b : Bool) → b ≡ false → not b ≡ true
-  not_flipped true h = absurd (true≢false h)
-  not_flipped false h = refl
-
   module _ (used known : List ℕ) (R : Rights file used known e) where
     pub fresh_sound : (x : ℕ) → x < rows_of file → fresh file used x ≡ true →
         (n : ℕ) × (message file x ≡ paper.Nonce (paper.plain n)) × (¬ Used (paper.Nonce (paper.plain n)) (beginning file e))
