@@ -11,9 +11,7 @@ use Rattle.laws.specs.Choose.{choose}
 use Rattle.laws.proofs.Both.{both, both3, refuted, and_true, and_false}
 use Rattle.forms.specs.Kinds.{crypt_of, public_of}
 use Rattle.forms.specs.Forms.{hello_of, reply_of, kept_of, signed_of, remembered_of}
-use Rattle.forms.specs.declared.leaves.One.{One}
-use Rattle.forms.specs.declared.leaves.Two.{Two}
-use Rattle.forms.specs.declared.Signed.{Signed}
+use Rattle.forms.specs.Flagged.{One, Two, Signed}
 use Rattle.earlier.specs.declared.Heard.{Heard}
 use Rattle.earlier.specs.declared.Wanted.{Wanted}
 use Rattle.earlier.specs.declared.Wanted.TheVariants.{HelloFor, HelloBy, HelloTo, ReplyWith, ReplyTo, ReplyBy, Cert, Secret, Sent, Session, Under}

@@ -3,13 +3,7 @@ use Rattle.std.specs.Prelude.{ℕ, Bool, true, false, not, ◌&&◌, ◌||◌, L
 use Rattle.laws.specs.Choose.{choose}
 use Rattle.forms.specs.Kinds.{crypt_of, public_of}
 use Rattle.forms.specs.Forms.{hello_of, reply_of, kept_of, signed_of, remembered_of}
-use Rattle.forms.specs.declared.leaves.One.{One}
-use Rattle.forms.specs.declared.leaves.Two.{Two}
-use Rattle.forms.specs.declared.Hello.{Hello}
-use Rattle.forms.specs.declared.Reply.{Reply}
-use Rattle.forms.specs.declared.Kept.{Kept}
-use Rattle.forms.specs.declared.Signed.{Signed}
-use Rattle.forms.specs.declared.Remembered.{Remembered}
+use Rattle.forms.specs.Flagged.{One, Two, Hello, Reply, Kept, Signed, Remembered}
 use Rattle.earlier.specs.declared.Heard.{Heard}
 use Rattle.earlier.specs.declared.Wanted.{Wanted}
 use Rattle.earlier.specs.declared.Wanted.TheVariants.{HelloFor, HelloBy, HelloTo, ReplyWith, ReplyTo, ReplyBy, Cert, Secret, Sent, Session, Under}
