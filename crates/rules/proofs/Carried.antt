@@ -13,7 +13,7 @@ use borrow.Author.Tests.{ltb-true, leb-true}
 use Rattle.std.proofs.lemmas.Bool.{leb-false}
 use Rattle.trace.specs.File.{row_limit}
 use Rattle.trace.specs.Kinds.{row_at}
-use Rattle.earlier.specs.declared.Heard.{Heard}
+use Rattle.earlier.specs.Heard.{Heard}
 use Rattle.closure.specs.Closure.{row_marked, zeros}
 use Rattle.closure.proofs.Marks.{none_marked}
 use Rattle.rules.specs.declared.synth.Parts.{Parts}

@@ -7,7 +7,7 @@ use Rattle.trace.specs.Kinds.{row_at}
 use Rattle.trace.specs.declared.Row.{Row}
 use Rattle.trace.specs.declared.Row.TheVariants.{Agent, Number, Nonce, Prf, PublicKey, PrivateKey, SessionKey, Hash, Crypt, Pair}
 use Rattle.closure.specs.Closure.{row_marked}
-use Rattle.earlier.specs.declared.Heard.{Heard}
+use Rattle.earlier.specs.Heard.{Heard}
 use Rattle.rules.specs.declared.synth.Parts.{Parts}
 use Rattle.rules.specs.declared.synth.Parts.TheVariants.{Leaf, Two}
 use Rattle.rules.specs.Tests.{can_make}

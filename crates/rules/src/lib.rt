@@ -45,12 +45,10 @@ pub fn spy_keys(file: &[u8], known: &[u8; ROW_LIMIT], event: Event) -> bool
     let Event::Notes(by, row) = event else {
         return false;
     };
-    let d = forms::spy_keys(file, row.0);
-    by.0 == SPY
-        && d.is
-        && row_marked(known, d.m)
-        && row_marked(known, d.na)
-        && row_marked(known, d.nb)
+    let Some(d) = forms::spy_keys(file, row.0) else {
+        return false;
+    };
+    by.0 == SPY && row_marked(known, d.m) && row_marked(known, d.na) && row_marked(known, d.nb)
 }
 
 // Rule 3: CH with a fresh nonce.
@@ -61,9 +59,10 @@ pub fn client_hello(file: &[u8], used: &[u8; ROW_LIMIT], event: Event) -> bool
     let Event::Says(from, _, row) = event else {
         return false;
     };
-    let m = forms::client_hello(file, row.0);
-    let fresh = is_fresh(file, used, m.na);
-    m.is && m.agent == from.0 && fresh
+    let Some(m) = forms::client_hello(file, row.0) else {
+        return false;
+    };
+    m.agent == from.0 && is_fresh(file, used, m.na)
 }
 
 // Rule 4: SH with a fresh nonce, to the agent of a CH.
@@ -79,9 +78,11 @@ pub fn server_hello(
     let Event::Says(from, to, row) = event else {
         return false;
     };
-    let m = forms::server_hello(file, row.0);
-    let fresh = is_fresh(file, used, m.nb);
-    m.is && fresh && earlier::happened(file, boxes, Wanted::HelloFor(from.0, to.0, m.sid))
+    let Some(m) = forms::server_hello(file, row.0) else {
+        return false;
+    };
+    is_fresh(file, used, m.nb)
+        && earlier::happened(file, boxes, Wanted::HelloFor(from.0, to.0, m.sid))
 }
 
 // Rule 5: an agent's certificate of its public key.
@@ -92,9 +93,10 @@ pub fn certificate(file: &[u8], event: Event) -> bool
     let Event::Says(from, _, row) = event else {
         return false;
     };
-    let m = forms::certificate(file, row.0);
-    let k = forms::leaves::public_of(file, m.key);
-    m.is && m.agent == from.0 && k.is && k.first == from.0
+    let Some(m) = forms::certificate(file, row.0) else {
+        return false;
+    };
+    m.agent == from.0 && forms::leaves::public_of(file, m.key) == Some(from.0)
 }
 
 // Rule 6: a fresh secret noted, and then sent under the key of a certificate.
@@ -109,18 +111,18 @@ pub fn key_exchange(
     ensures { result ≡
         tests.key_exchange file.now used.now (found file.now boxes.now) (heard_in note) (heard_in said) }
 {
-    let Event::Notes(by, noted) = note else {
+    let (Event::Notes(by, noted), Event::Says(from, to, row)) = (note, said) else {
         return false;
     };
-    let Event::Says(from, to, row) = said else {
+    let Some(k) = forms::secret_note(file, noted.0) else {
         return false;
     };
-    let k = forms::secret_note(file, noted.0);
-    let c = forms::leaves::crypt_of(file, row.0);
-    let fresh = k.is && is_fresh(file, used, k.secret);
-    let sent = c.is && from.0 == by.0 && to.0 == k.agent && c.second == k.secret;
-    let cert = Wanted::Cert(by.0, k.agent, c.first);
-    fresh && sent && earlier::happened(file, boxes, cert)
+    let Some(c) = forms::leaves::crypt_of(file, row.0) else {
+        return false;
+    };
+    let fresh = is_fresh(file, used, k.secret);
+    let sent = from == by && to.0 == k.agent && c.body == k.secret;
+    fresh && sent && earlier::happened(file, boxes, Wanted::Cert(by.0, k.agent, c.key))
 }
 
 // Rule 7: the nonce of an SH and a secret of one's own, signed.
@@ -131,8 +133,10 @@ pub fn cert_verify(file: &[u8], boxes: &[u16; BOX_ROOM], event: Event) -> bool
     let Event::Says(from, to, row) = event else {
         return false;
     };
-    let m = forms::cert_verify(file, row.0);
-    m.is && m.signer == from.0
+    let Some(m) = forms::cert_verify(file, row.0) else {
+        return false;
+    };
+    m.signer == from.0
         && m.agent == to.0
         && earlier::happened(file, boxes, Wanted::ReplyWith(from.0, m.nb))
         && earlier::happened(file, boxes, Wanted::Secret(from.0, to.0, m.secret))
@@ -146,6 +150,7 @@ pub fn oops(file: &[u8], boxes: &[u16; BOX_ROOM], event: Event) -> bool
     let Event::Says(from, to, row) = event else {
         return false;
     };
-    let k = forms::leaves::session_of(file, row.0);
-    to.0 == SPY && k.is && earlier::happened(file, boxes, Wanted::Under(from.0, row.0))
+    to.0 == SPY
+        && forms::leaves::session_of(file, row.0).is_some()
+        && earlier::happened(file, boxes, Wanted::Under(from.0, row.0))
 }
