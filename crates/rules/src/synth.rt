@@ -54,7 +54,7 @@ pub fn make(file: &[u8], known: &[u8; ROW_LIMIT], made: &mut [u8; ROW_LIMIT], ro
 
 // A side that is not below the row is not made.
 #[cycle(make_make_below)]
-#[tactic(auto, using(crate::proofs::Asking::any_depth))]
+#[tactic(auto, using(crate::proofs::Depth::any_depth))]
 fn make_below(
     file: &[u8],
     known: &[u8; ROW_LIMIT],
