@@ -273,33 +273,3 @@ module _ (file : List ℕ) (h : Heard) where
   card_fits (Under from key) =
       swapped (h.says && eqb h.from from)
       (λ t. under_key_lem file h.row from key ∙ said (Under from key) (both h.says (eqb h.from from) t).0)
-
--- a card of another shape, and one whose parts are compared
-module _ (boxes : List ℕ) (look : Look) (j : ℕ) where
-  abbrev kept : Card
-  kept = card_at boxes j
-
-  pub other_shape : j < event_limit → ¬ (kept.shape ≡ look.shape) → false ≡ (ltb j event_limit && fits_card look kept)
-  other_shape l n = rw (lt-ltb j event_limit l, ne_eqb kept.shape look.shape n) refl
-
-  pub same_shape : j < event_limit → kept.shape ≡ look.shape → {a b c d : Bool} → a ≡ fits_part look.first kept.first →
-      b ≡ fits_part look.second kept.second → c ≡ fits_part look.third kept.third → d ≡ fits_part look.fourth kept.fourth →
-      (a && b && c && d) ≡ (ltb j event_limit && fits_card look kept)
-  same_shape l e p q r s =
-      (λ i. p i && q i && r i && s i) ∙
-      (λ i.
-      sym (lt-ltb j event_limit l) i &&
-      (sym (eq-eqb kept.shape look.shape e) i && fits_part look.first kept.first && fits_part look.second kept.second &&
-      fits_part look.third kept.third && fits_part look.fourth kept.fourth))
-
--- the agents are asked for where the card is what is looked for
-module _ (file boxes : List ℕ) (wanted : Wanted) (j : ℕ) {look : Look} (asked : look ≡ look_for wanted) {x : Bool}
-    (test : x ≡ (ltb j event_limit && fits_card look (card_at boxes j))) where
-  card_test : x ≡ (ltb j event_limit && fits_card (look_for wanted) (card_at boxes j))
-  card_test = test ∙ (λ i. ltb j event_limit && fits_card (asked i) (card_at boxes j))
-
-  pub fits_both : {h : Heard} {a : Bool} → x ≡ true → h ≡ heard_at file j → a ≡ fits_agents wanted h → a ≡ fits_at file boxes wanted j
-  fits_both t e q = q ∙ (λ i. fits_agents wanted (e i)) ∙ (λ i. (sym t ∙ card_test) i && fits_agents wanted (heard_at file j))
-
-  pub fits_not : x ≡ false → false ≡ fits_at file boxes wanted j
-  fits_not f = λ i. (sym f ∙ card_test) i && fits_agents wanted (heard_at file j)
