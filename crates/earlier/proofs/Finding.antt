@@ -15,7 +15,7 @@ use Rattle.trace.specs.File.{event_limit, agent_limit}
 use Rattle.laws.specs.First.{any}
 use Rattle.laws.proofs.First.{any_none, any_some, any_inv, bool_cases}
 use Rattle.laws.proofs.Both.{both, both3, refuted}
-use Rattle.earlier.specs.declared.Heard.{Heard}
+use Rattle.earlier.specs.Heard.{Heard}
 use Rattle.earlier.specs.declared.Wanted.{Wanted}
 use Rattle.earlier.specs.declared.Wanted.TheVariants.{HelloFor, HelloBy, HelloTo, ReplyWith, ReplyTo, ReplyBy, Cert, Secret, Sent, Session, Under}
 use Rattle.earlier.specs.Earlier.{heard_at, said_to, said_by, noted_by, fits_in, earlier, past}

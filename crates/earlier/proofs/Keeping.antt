@@ -18,7 +18,7 @@ use Rattle.laws.specs.Choose.{choose}
 use Rattle.laws.proofs.First.{lt_suc, bool_cases}
 use Rattle.laws.proofs.Both.{both3, both4}
 use Rattle.laws.proofs.Zeros.{zeros}
-use Rattle.earlier.specs.declared.Heard.{Heard}
+use Rattle.earlier.specs.Heard.{Heard}
 use Rattle.earlier.specs.declared.cards.Card.{Card}
 use Rattle.earlier.specs.Earlier.{heard_at, same_heard}
 use Rattle.earlier.specs.Cards.{card_with, card_of}

@@ -14,7 +14,7 @@ use Rattle.forms.specs.Forms.{hello_of, reply_of, kept_of, signed_of, remembered
 use Rattle.forms.specs.declared.leaves.One.{One}
 use Rattle.forms.specs.declared.leaves.Two.{Two}
 use Rattle.forms.specs.declared.Signed.{Signed}
-use Rattle.earlier.specs.declared.Heard.{Heard}
+use Rattle.earlier.specs.Heard.{Heard}
 use Rattle.earlier.specs.declared.Wanted.{Wanted}
 use Rattle.earlier.specs.declared.Wanted.TheVariants.{HelloFor, HelloBy, HelloTo, ReplyWith, ReplyTo, ReplyBy, Cert, Secret, Sent, Session, Under}
 use Rattle.earlier.specs.declared.cards.Card.{Card}

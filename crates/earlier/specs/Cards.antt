@@ -10,7 +10,7 @@ use Rattle.forms.specs.declared.Reply.{Reply}
 use Rattle.forms.specs.declared.Kept.{Kept}
 use Rattle.forms.specs.declared.Signed.{Signed}
 use Rattle.forms.specs.declared.Remembered.{Remembered}
-use Rattle.earlier.specs.declared.Heard.{Heard}
+use Rattle.earlier.specs.Heard.{Heard}
 use Rattle.earlier.specs.declared.Wanted.{Wanted}
 use Rattle.earlier.specs.declared.Wanted.TheVariants.{HelloFor, HelloBy, HelloTo, ReplyWith, ReplyTo, ReplyBy, Cert, Secret, Sent, Session, Under}
 use Rattle.earlier.specs.declared.cards.Card.{Card}

@@ -3,7 +3,7 @@ use Rattle.std.specs.Prelude.{ℕ, suc, ◌+◌, ◌-◌, ◌*◌, ◌%◌, ◌<
 use Rattle.trace.specs.File.{row_limit, event_limit}
 use Rattle.laws.specs.Choose.{choose}
 use Rattle.forms.specs.Forms.{sealed_of}
-use Rattle.earlier.specs.declared.Heard.{Heard}
+use Rattle.earlier.specs.Heard.{Heard}
 use Rattle.earlier.specs.declared.cards.Card.{Card}
 use Rattle.earlier.specs.Earlier.{heard_at, same_heard}
 use Rattle.earlier.specs.Cards.{card_of}

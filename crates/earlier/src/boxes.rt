@@ -8,14 +8,15 @@
 ghost use Rattle.std.specs.Prelude.{◌≡◌, ◌<◌, get_or, ltb, ◌&&◌};
 ghost use Rattle.trace.specs.File.{event_limit, agent_limit};
 ghost use Rattle.laws.specs.First.{any};
-ghost use Rattle.earlier.specs.Earlier.{heard_at};
+ghost use Rattle.earlier.specs.Earlier.{heard_in, heard_at};
 ghost use Rattle.earlier.specs.Cards.{look_for, fits_card};
 ghost use Rattle.earlier.specs.Boxes.{box_count, slot_count, box_of, box_for, latest_to, next, chain_from, some, card_at, fits_at};
 ghost use Rattle.earlier.specs.Kept.{slot_of, is_again, seal_mark, seal_at, boxed_in, carded_in, kept_in};
 
 use super::cards::{Card, Look};
-use super::{Heard, Wanted, cards, hear, same_heard};
+use super::{Wanted, cards};
 use trace::limits::{AGENT_LIMIT, AGENTS, EVENT_LIMIT, EVENTS, ROWS};
+use trace::{Event, EventNo};
 
 // The parts of the array, one behind the other: first the boxes of receivers, then those of notes.
 const NOTES: u16 = AGENTS;
@@ -44,13 +45,12 @@ pub const BOX_ROOM: usize = CARDS_AT + CARD * EVENT_LIMIT;
 // A hash past the rows that have marks.
 const FAR: u16 = 65535;
 
-fn box_of(h: Heard) -> u16
-    ensures { (result ≡ box_of h) × (result < box_count) }
+fn box_of(event: Event) -> u16
+    ensures { (result ≡ box_of (heard_in event)) × (result < box_count) }
 {
-    if h.says {
-        h.to % AGENTS
-    } else {
-        NOTES + h.from % AGENTS
+    match event {
+        Event::Says(_, receiver, _) => receiver.0 % AGENTS,
+        Event::Notes(agent, _) => NOTES + agent.0 % AGENTS,
     }
 }
 
@@ -118,7 +118,7 @@ fn fits(file: &[u8], boxes: &[u16; BOX_ROOM], wanted: Wanted, look: Look, j: u16
 {
     let card = fits_card(boxes, look, j);
     if card {
-        cards::fits_agents(wanted, hear(file, j))
+        cards::fits_agents(wanted, trace::event_at(file, EventNo(j)))
     } else {
         false
     }
@@ -164,15 +164,19 @@ pub(crate) fn search_all(file: &[u8], boxes: &[u16; BOX_ROOM], wanted: Wanted, l
 }
 
 // Odd factors spread the events of a usual file over all slots.
-fn slot_of(h: Heard) -> usize
-    ensures { (result ≡ slot_of h) × (result < slot_count) }
+fn slot_of(event: Event) -> usize
+    ensures { (result ≡ slot_of (heard_in event)) × (result < slot_count) }
 {
-    ((h.row as usize) * 5 + (h.from as usize) * 97 + (h.to as usize) * 31) % SLOTS
+    let (row, from, to) = match event {
+        Event::Says(sender, receiver, row) => (row.0, sender.0, receiver.0),
+        Event::Notes(agent, row) => (row.0, agent.0, 0),
+    };
+    (usize::from(row) * 5 + usize::from(from) * 97 + usize::from(to) * 31) % SLOTS
 }
 
-// Whether the link leads to an event before e that equals h.
-fn is_again(file: &[u8], e: u16, link: u16, h: Heard) -> bool
-    ensures { result ≡ is_again file.now e link h }
+// Whether the link leads to an event before e that equals this one.
+fn is_again(file: &[u8], e: u16, link: u16, event: Event) -> bool
+    ensures { result ≡ is_again file.now e link (heard_in event) }
 {
     if link == 0 {
         return false;
@@ -180,8 +184,7 @@ fn is_again(file: &[u8], e: u16, link: u16, h: Heard) -> bool
     if e < link {
         return false;
     }
-    let g = hear(file, link - 1);
-    same_heard(g, h)
+    trace::event_at(file, EventNo(link - 1)) == event
 }
 
 // The hash of a Finished of that side, by one more than its row, or 0 where the row is none.
@@ -216,15 +219,15 @@ pub fn sealed(boxes: &[u16; BOX_ROOM], server: bool, e: u16) -> u16
     }
 }
 
-// Event e, which is h, is put into its box, unless its slot leads to one that equals it.
-fn box_event(file: &[u8], boxes: &mut [u16; BOX_ROOM], e: u16, h: Heard)
+// Event e is put into its box, unless its slot leads to one that equals it.
+fn box_event(file: &[u8], boxes: &mut [u16; BOX_ROOM], e: u16, event: Event)
     requires in_range { e < event_limit }
-    requires heard { h ≡ heard_at file.now e }
+    requires heard { heard_in event ≡ heard_at file.now e }
     ensures { boxes.new ≡ boxed_in file.now boxes.old e }
 {
-    let at = box_of(h) as usize;
-    let slot = SLOTS_AT + slot_of(h);
-    let again = is_again(file, e, boxes[slot], h);
+    let at = box_of(event) as usize;
+    let slot = SLOTS_AT + slot_of(event);
+    let again = is_again(file, e, boxes[slot], event);
     if !again {
         boxes[LINKS_AT + (e as usize)] = boxes[at];
         boxes[at] = e + 1;
@@ -245,15 +248,25 @@ fn keep_card(boxes: &mut [u16; BOX_ROOM], e: u16, card: Card)
     boxes[at + 4] = card.fourth;
 }
 
+fn row_of(event: Event) -> u16
+    ensures { result ≡ (heard_in event).row }
+{
+    match event {
+        Event::Says(_, _, row) => row.0,
+        Event::Notes(_, row) => row.0,
+    }
+}
+
 // Event e is kept: in its box, by the hash of its Finished, and by its card.
 pub fn keep(file: &[u8], boxes: &mut [u16; BOX_ROOM], e: u16)
     ensures { boxes.new ≡ kept_in file.now boxes.old e }
 {
     if e < EVENTS {
-        let h = hear(file, e);
-        box_event(file, boxes, e, h);
-        boxes[CLIENTS_AT + (e as usize)] = seal_of(file, h.row, false);
-        boxes[SERVERS_AT + (e as usize)] = seal_of(file, h.row, true);
-        keep_card(boxes, e, cards::card_of(file, h));
+        let event = trace::event_at(file, EventNo(e));
+        let row = row_of(event);
+        box_event(file, boxes, e, event);
+        boxes[CLIENTS_AT + (e as usize)] = seal_of(file, row, false);
+        boxes[SERVERS_AT + (e as usize)] = seal_of(file, row, true);
+        keep_card(boxes, e, cards::card_of(file, event));
     }
 }

@@ -3,10 +3,12 @@
 ghost use Rattle.std.specs.Prelude.{◌≡◌};
 ghost use Rattle.forms.specs.Kinds.{public_of};
 ghost use Rattle.forms.specs.Forms.{kept_of, signed_of, remembered_of};
+ghost use Rattle.earlier.specs.Earlier.{heard_in};
 ghost use Rattle.earlier.specs.Cards.{crypt_card, said_card, noted_with, card_of, any, just, look_with, look_for, fits_part, fits_agents};
 
-use super::{Heard, Wanted, noted_by, said_by, said_to};
+use super::{Wanted, noted_by, said_by, said_to};
 use forms::leaves::Two;
+use trace::Event;
 
 // The shapes; 0 is none of them.
 const HELLO: u16 = 1;
@@ -151,13 +153,12 @@ fn noted_card(file: &[u8], r: u16) -> Card
     NO_CARD
 }
 
-pub fn card_of(file: &[u8], h: Heard) -> Card
-    ensures { result ≡ card_of file.now h }
+pub fn card_of(file: &[u8], event: Event) -> Card
+    ensures { result ≡ card_of file.now (heard_in event) }
 {
-    if h.says {
-        said_card(file, h.row)
-    } else {
-        noted_card(file, h.row)
+    match event {
+        Event::Says(_, _, row) => said_card(file, row.0),
+        Event::Notes(_, row) => noted_card(file, row.0),
     }
 }
 
@@ -248,20 +249,20 @@ pub fn fits_part(part: Part, x: u16) -> bool
 }
 
 // Whether the event is of the agents that are wanted.
-pub fn fits_agents(wanted: Wanted, h: Heard) -> bool
-    ensures { result ≡ fits_agents wanted h }
+pub fn fits_agents(wanted: Wanted, event: Event) -> bool
+    ensures { result ≡ fits_agents wanted (heard_in event) }
 {
     match wanted {
-        Wanted::HelloFor(to, _, _) => said_to(h, to),
-        Wanted::HelloBy(from, to, _, _, _) => said_by(h, from, to),
-        Wanted::HelloTo(to, _, _, _, _) => said_to(h, to),
-        Wanted::ReplyWith(to, _) => said_to(h, to),
-        Wanted::ReplyTo(to, _, _, _) => said_to(h, to),
-        Wanted::ReplyBy(from, to, _, _, _) => said_by(h, from, to),
-        Wanted::Cert(to, _, _) => said_to(h, to),
-        Wanted::Secret(from, _, _) => noted_by(h, from),
-        Wanted::Sent(to, _) => said_to(h, to),
-        Wanted::Session(from, _, _, _, _) => noted_by(h, from),
-        Wanted::Under(from, _) => (h.says) & (h.from == from),
+        Wanted::HelloFor(to, _, _) => said_to(event, to),
+        Wanted::HelloBy(from, to, _, _, _) => said_by(event, from, to),
+        Wanted::HelloTo(to, _, _, _, _) => said_to(event, to),
+        Wanted::ReplyWith(to, _) => said_to(event, to),
+        Wanted::ReplyTo(to, _, _, _) => said_to(event, to),
+        Wanted::ReplyBy(from, to, _, _, _) => said_by(event, from, to),
+        Wanted::Cert(to, _, _) => said_to(event, to),
+        Wanted::Secret(from, _, _) => noted_by(event, from),
+        Wanted::Sent(to, _) => said_to(event, to),
+        Wanted::Session(from, _, _, _, _) => noted_by(event, from),
+        Wanted::Under(from, _) => matches!(event, Event::Says(sender, _, _) if sender.0 == from),
     }
 }
