@@ -1,68 +1,34 @@
-// The card of an event: its message by shape and parts. It is written once, when the event is kept, and every
+// The card of an event: what its message is, with its parts. It is written once, when the event is kept, and every
 // search compares cards instead of reading messages again.
 ghost use Rattle.std.specs.Prelude.{◌≡◌};
 ghost use Rattle.forms.specs.Kinds.{public_of};
 ghost use Rattle.forms.specs.Forms.{kept_of, signed_of, remembered_of};
 ghost use Rattle.earlier.specs.Earlier.{heard_in};
-ghost use Rattle.earlier.specs.Cards.{crypt_card, said_card, noted_with, card_of, any, just, look_with, look_for, fits_part, fits_agents};
+ghost use Rattle.earlier.specs.Cards.{crypt_card, said_card, noted_with, card_of, fits_card, fits_agents};
 
 use super::{Wanted, noted_by, said_by, said_to};
 use forms::leaves::Two;
 use trace::Event;
 
-// The shapes; 0 is none of them.
-const HELLO: u16 = 1;
-
-const REPLY: u16 = 2;
-
-const SECRET: u16 = 3;
-
-const SESSION: u16 = 4;
-
-const CRYPT: u16 = 5;
-
-// What a Crypt holds.
-const CERTIFICATE: u16 = 1;
-
-const SENT: u16 = 2;
-
+// A message as the searches compare it: agents by their numbers, other parts by their rows.
 #[derive(Clone, Copy)]
-pub struct Card {
-    pub shape: u16,
-    pub first: u16,
-    pub second: u16,
-    pub third: u16,
-    pub fourth: u16,
-}
-
-const NO_CARD: Card = Card {
-    shape: 0,
-    first: 0,
-    second: 0,
-    third: 0,
-    fourth: 0,
-};
-
-// What is asked of a part, if anything is.
-#[derive(Clone, Copy)]
-pub struct Part {
-    pub asked: bool,
-    pub is: u16,
-}
-
-const ANY: Part = Part {
-    asked: false,
-    is: 0,
-};
-
-// What is asked of a card.
-#[derive(Clone, Copy)]
-pub struct Look {
-    pub shape: u16,
-    pub first: Part,
-    pub second: Part,
-    pub third: Part,
-    pub fourth: Part,
+pub enum Card {
+    // CH: A, Na, SID, Pa.
+    Hello(u16, u16, u16, u16),
+    // SH: Nb, SID, Pb.
+    Reply(u16, u16, u16),
+    // {Agent B, PMS}: B, PMS.
+    Secret(u16, u16),
+    // {SID, Agent A, Agent B, M}: SID, A, B, M.
+    Session(u16, u16, u16, u16),
+    // cert(B, K): the key that it is under, B, K.
+    Certificate(u16, u16, u16),
+    // A Crypt under B's public key: the key, B, the body.
+    Sent(u16, u16, u16),
+    // Any other Crypt: the key.
+    Crypt(u16),
+    // None that is looked for.
+    Other,
 }
 
 fn crypt_card(file: &[u8], r: u16, c: Two) -> Card
@@ -70,31 +36,13 @@ fn crypt_card(file: &[u8], r: u16, c: Two) -> Card
 {
     let s = forms::certificate(file, r);
     if s.is {
-        return Card {
-            shape: CRYPT,
-            first: s.agent,
-            second: s.key,
-            third: CERTIFICATE,
-            fourth: c.first,
-        };
+        return Card::Certificate(c.first, s.agent, s.key);
     }
     let k = forms::leaves::public_of(file, c.first);
     if k.is {
-        return Card {
-            shape: CRYPT,
-            first: k.first,
-            second: c.second,
-            third: SENT,
-            fourth: c.first,
-        };
+        return Card::Sent(c.first, k.first, c.second);
     }
-    Card {
-        shape: CRYPT,
-        first: 0,
-        second: 0,
-        third: 0,
-        fourth: c.first,
-    }
+    Card::Crypt(c.first)
 }
 
 fn said_card(file: &[u8], r: u16) -> Card
@@ -106,25 +54,13 @@ fn said_card(file: &[u8], r: u16) -> Card
     }
     let m = forms::client_hello(file, r);
     if m.is {
-        return Card {
-            shape: HELLO,
-            first: m.agent,
-            second: m.na,
-            third: m.sid,
-            fourth: m.pa,
-        };
+        return Card::Hello(m.agent, m.na, m.sid, m.pa);
     }
     let n = forms::server_hello(file, r);
     if n.is {
-        return Card {
-            shape: REPLY,
-            first: n.nb,
-            second: n.sid,
-            third: n.pb,
-            fourth: 0,
-        };
+        return Card::Reply(n.nb, n.sid, n.pb);
     }
-    NO_CARD
+    Card::Other
 }
 
 fn noted_card(file: &[u8], r: u16) -> Card
@@ -132,25 +68,13 @@ fn noted_card(file: &[u8], r: u16) -> Card
 {
     let k = forms::secret_note(file, r);
     if k.is {
-        return Card {
-            shape: SECRET,
-            first: k.agent,
-            second: k.secret,
-            third: 0,
-            fourth: 0,
-        };
+        return Card::Secret(k.agent, k.secret);
     }
     let n = forms::session_note(file, r);
     if n.is {
-        return Card {
-            shape: SESSION,
-            first: n.sid,
-            second: n.a,
-            third: n.b,
-            fourth: n.m,
-        };
+        return Card::Session(n.sid, n.a, n.b, n.m);
     }
-    NO_CARD
+    Card::Other
 }
 
 pub fn card_of(file: &[u8], event: Event) -> Card
@@ -162,90 +86,34 @@ pub fn card_of(file: &[u8], event: Event) -> Card
     }
 }
 
-fn only(is: u16) -> Part
-    ensures { result ≡ just is }
+// Whether the message is what is wanted.
+pub fn fits_card(wanted: Wanted, card: Card) -> bool
+    ensures { result ≡ fits_card wanted card }
 {
-    Part { asked: true, is }
-}
-
-// A card of which the first parts are asked for: two, three or four.
-fn ask_two(shape: u16, first: u16, second: u16) -> Look
-    ensures { result ≡ look_with shape (just first) (just second) any any }
-{
-    Look {
-        shape,
-        first: only(first),
-        second: only(second),
-        third: ANY,
-        fourth: ANY,
+    match (wanted, card) {
+        (Wanted::HelloFor(_, agent, sid), Card::Hello(a, _, s, _)) => a == agent && s == sid,
+        (Wanted::HelloBy(from, _, na, sid, pa), Card::Hello(a, n, s, p)) => {
+            a == from && n == na && s == sid && p == pa
+        }
+        (Wanted::HelloTo(_, agent, na, sid, pa), Card::Hello(a, n, s, p)) => {
+            a == agent && n == na && s == sid && p == pa
+        }
+        (Wanted::ReplyWith(_, nb), Card::Reply(n, _, _)) => n == nb,
+        (Wanted::ReplyTo(_, nb, sid, pb), Card::Reply(n, s, p)) => n == nb && s == sid && p == pb,
+        (Wanted::ReplyBy(_, _, nb, sid, pb), Card::Reply(n, s, p)) => {
+            n == nb && s == sid && p == pb
+        }
+        (Wanted::Cert(_, agent, key), Card::Certificate(_, a, k)) => a == agent && k == key,
+        (Wanted::Secret(_, agent, secret), Card::Secret(a, s)) => a == agent && s == secret,
+        (Wanted::Sent(to, secret), Card::Sent(_, a, s)) => a == to && s == secret,
+        (Wanted::Session(_, sid, a, b, m), Card::Session(s, x, y, z)) => {
+            s == sid && x == a && y == b && z == m
+        }
+        (Wanted::Under(_, key), Card::Certificate(k, _, _)) => k == key,
+        (Wanted::Under(_, key), Card::Sent(k, _, _)) => k == key,
+        (Wanted::Under(_, key), Card::Crypt(k)) => k == key,
+        _ => false,
     }
-}
-
-fn ask_three(shape: u16, first: u16, second: u16, third: u16) -> Look
-    ensures { result ≡ look_with shape (just first) (just second) (just third) any }
-{
-    Look {
-        shape,
-        first: only(first),
-        second: only(second),
-        third: only(third),
-        fourth: ANY,
-    }
-}
-
-fn ask_four(shape: u16, first: u16, second: u16, third: u16, fourth: u16) -> Look
-    ensures { result ≡ look_with shape (just first) (just second) (just third) (just fourth) }
-{
-    Look {
-        shape,
-        first: only(first),
-        second: only(second),
-        third: only(third),
-        fourth: only(fourth),
-    }
-}
-
-// The card of all that is wanted.
-pub fn look_for(wanted: Wanted) -> Look
-    ensures { result ≡ look_for wanted }
-{
-    match wanted {
-        Wanted::HelloFor(_, agent, sid) => Look {
-            shape: HELLO,
-            first: only(agent),
-            second: ANY,
-            third: only(sid),
-            fourth: ANY,
-        },
-        Wanted::HelloBy(from, _, na, sid, pa) => ask_four(HELLO, from, na, sid, pa),
-        Wanted::HelloTo(_, agent, na, sid, pa) => ask_four(HELLO, agent, na, sid, pa),
-        Wanted::ReplyWith(_, nb) => Look {
-            shape: REPLY,
-            first: only(nb),
-            second: ANY,
-            third: ANY,
-            fourth: ANY,
-        },
-        Wanted::ReplyTo(_, nb, sid, pb) => ask_three(REPLY, nb, sid, pb),
-        Wanted::ReplyBy(_, _, nb, sid, pb) => ask_three(REPLY, nb, sid, pb),
-        Wanted::Cert(_, agent, key) => ask_three(CRYPT, agent, key, CERTIFICATE),
-        Wanted::Secret(_, agent, secret) => ask_two(SECRET, agent, secret),
-        Wanted::Sent(to, secret) => ask_three(CRYPT, to, secret, SENT),
-        Wanted::Session(_, sid, a, b, m) => ask_four(SESSION, sid, a, b, m),
-        Wanted::Under(_, key) => Look {
-            shape: CRYPT,
-            first: ANY,
-            second: ANY,
-            third: ANY,
-            fourth: only(key),
-        },
-    }
-}
-
-pub fn fits_part(part: Part, x: u16) -> bool
-    ensures { result ≡ fits_part part x }
-{
-    (!part.asked) | (x == part.is)
 }
 
 // Whether the event is of the agents that are wanted.

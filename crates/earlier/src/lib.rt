@@ -6,8 +6,8 @@ mod cards;
 
 ghost use Rattle.std.specs.Prelude.{◌≡◌};
 ghost use Rattle.earlier.specs.Earlier.{heard_in, said_to, said_by, noted_by};
-ghost use Rattle.earlier.specs.Boxes.{found};
 
+pub use boxes::{Boxes, happened};
 use trace::Event;
 
 // What a rule looks for: agents by their numbers, other parts by their rows.
@@ -56,17 +56,4 @@ pub fn noted_by(event: Event, from: u16) -> bool
     ensures { result ≡ noted_by (heard_in event) from }
 {
     matches!(event, Event::Notes(agent, _) if agent.0 == from)
-}
-
-// Whether some earlier event is what is wanted.
-pub fn happened(file: &[u8], boxes: &[u16; boxes::BOX_ROOM], wanted: Wanted) -> bool
-    ensures { result ≡ found file.now boxes.now wanted }
-{
-    let look = cards::look_for(wanted);
-    let at = boxes::box_for(wanted) as usize;
-    if at < boxes::BOXES {
-        boxes::search(file, boxes, wanted, look, boxes[at])
-    } else {
-        boxes::search_all(file, boxes, wanted, look)
-    }
 }
