@@ -10,9 +10,7 @@ use Rattle.laws.specs.Choose.{choose}
 use Rattle.laws.proofs.Both.{both, both3, refuted, and_true, and_false}
 use Rattle.forms.specs.Kinds.{crypt_of, public_of}
 use Rattle.forms.specs.Forms.{hello_of, reply_of, kept_of, signed_of, remembered_of}
-use Rattle.forms.specs.declared.leaves.One.{One}
-use Rattle.forms.specs.declared.leaves.Two.{Two}
-use Rattle.forms.specs.declared.Signed.{Signed}
+use Rattle.forms.specs.Flagged.{One, Two, Signed}
 use Rattle.earlier.specs.Heard.{Heard}
 use Rattle.earlier.specs.declared.Wanted.{Wanted}
 use Rattle.earlier.specs.declared.Wanted.TheVariants.{HelloFor, HelloBy, HelloTo, ReplyWith, ReplyTo, ReplyBy, Cert, Secret, Sent, Session, Under}
@@ -64,12 +62,12 @@ module _ (p : Card → Bool) (X H R N : Card) where
 
 -- what no Crypt is
 module _ (p : Card → Bool) (c : Two) (s : Signed) (k : One) where
-  not_crypt : p (card.Certificate c.first s.agent s.key) ≡ false → p (card.Sent c.first k.first c.second) ≡ false → p (card.Crypt c.first) ≡ false →
+  not_crypt : p (card.Certificate c.first (record { agent = s.agent; key = s.key })) ≡ false → p (card.Sent c.first k.first c.second) ≡ false → p (card.Crypt c.first) ≡ false →
       p (crypt_card c s k) ≡ false
   not_crypt f g n = go s.is k.is
     where
       go : (x y : Bool) →
-          p (choose x (card.Certificate c.first s.agent s.key) (choose y (card.Sent c.first k.first c.second) (card.Crypt c.first))) ≡ false
+          p (choose x (card.Certificate c.first (record { agent = s.agent; key = s.key })) (choose y (card.Sent c.first k.first c.second) (card.Crypt c.first))) ≡ false
       go true y = f
       go false true = g
       go false false = n
@@ -82,7 +80,7 @@ certified c s k to agent key = go s.is k.is
     go : (x y : Bool) →
         ((x && eqb s.agent agent) && eqb s.key key) ≡
         fits_card (Cert to agent key)
-        (choose x (card.Certificate c.first s.agent s.key) (choose y (card.Sent c.first k.first c.second) (card.Crypt c.first)))
+        (choose x (card.Certificate c.first (record { agent = s.agent; key = s.key })) (choose y (card.Sent c.first k.first c.second) (card.Crypt c.first)))
     go true y = refl
     go false true = refl
     go false false = refl
@@ -94,7 +92,7 @@ sent c s k to secret = go s.is k.is
     go : (x y : Bool) → (y ≡ true → x ≡ false) →
         ((y && eqb k.first to) && eqb c.second secret) ≡
         fits_card (Sent to secret)
-        (choose x (card.Certificate c.first s.agent s.key) (choose y (card.Sent c.first k.first c.second) (card.Crypt c.first)))
+        (choose x (card.Certificate c.first (record { agent = s.agent; key = s.key })) (choose y (card.Sent c.first k.first c.second) (card.Crypt c.first)))
     go true true apart = absurd (true≢false (apart refl))
     go true false apart = refl
     go false true apart = refl
@@ -106,7 +104,7 @@ under c s k from key = go s.is k.is
     go : (x y : Bool) →
         eqb c.first key ≡
         fits_card (Under from key)
-        (choose x (card.Certificate c.first s.agent s.key) (choose y (card.Sent c.first k.first c.second) (card.Crypt c.first)))
+        (choose x (card.Certificate c.first (record { agent = s.agent; key = s.key })) (choose y (card.Sent c.first k.first c.second) (card.Crypt c.first)))
     go true y = refl
     go false true = refl
     go false false = refl

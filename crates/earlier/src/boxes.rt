@@ -4,9 +4,10 @@
 // event to the one before it in its box, and a slot to the last event that was kept there: by one more than the
 // event's number, or 0 for none. An event that equals the one at its slot is not kept again, so that repeats cost
 // nothing.
-ghost use Rattle.std.specs.Prelude.{◌≡◌, ◌<◌, ltb, ◌&&◌, IfSome};
+ghost use Rattle.std.specs.Prelude.{◌≡◌, ◌<◌, ltb, ◌&&◌, IfSome, false, true};
 ghost use Rattle.trace.specs.File.{event_limit, agent_limit};
 ghost use Rattle.laws.specs.First.{any};
+ghost use Rattle.forms.specs.Kinds.{server_in};
 ghost use Rattle.earlier.specs.Earlier.{heard_in, heard_at};
 ghost use Rattle.earlier.specs.Boxes.{box_count, slot_count, box_of, box_for, latest_to, next, chain_from, rest_of, some, fits_at, found_in, found};
 ghost use Rattle.std.specs.Iterator.{YieldsFirst, item_count};
@@ -15,7 +16,7 @@ ghost use Rattle.earlier.specs.Kept.{none_kept, slot_of, is_again, seal_mark, se
 use super::cards::Card;
 use super::{Wanted, cards};
 use trace::limits::{AGENT_LIMIT, AGENTS, EVENT_LIMIT, EVENTS, ROWS};
-use trace::{Event, EventNo};
+use trace::{Event, EventNo, Role};
 
 // First the boxes of receivers, then those of notes.
 const NOTES: u16 = AGENTS;
@@ -200,35 +201,30 @@ fn is_again(file: &[u8], e: u16, link: u16, event: Event) -> bool
     0 < link && link <= e && trace::event_at(file, EventNo(link - 1)) == event
 }
 
-// The hash of a Finished of that side, by one more than its row, or 0 where the row is none.
-fn seal_of(file: &[u8], r: u16, server: bool) -> u16
-    ensures { result ≡ seal_mark file.now server r }
+// The hash of a client's Finished and of a server's, by one more than its row, or 0 where the row is none.
+fn seals_of(file: &[u8], r: u16) -> (u16, u16)
+    ensures { result ≡ (seal_mark file.now false r, seal_mark file.now true r) }
 {
-    let own = forms::under_key(file, r, server);
-    if own {
-        let f = forms::finished(file, r);
-        let side = forms::on_side(server, f.server);
-        if (f.is) & side {
-            if f.hash < ROWS {
-                return f.hash + 1;
-            }
-            return FAR;
-        }
+    let Some(f) = forms::finished(file, r) else {
+        return (0, 0);
+    };
+    let seal = if f.hash < ROWS { f.hash + 1 } else { FAR };
+    match f.role {
+        Role::Client => (seal, 0),
+        Role::Server => (0, seal),
     }
-    0
 }
 
-// What `seal_of` said of an event's row when it was kept.
-pub fn sealed(boxes: &Boxes, server: bool, e: u16) -> u16
-    ensures { result ≡ seal_at boxes.now server e }
+// What `seals_of` said of an event's row when it was kept.
+pub fn sealed(boxes: &Boxes, role: Role, e: u16) -> u16
+    ensures { result ≡ seal_at boxes.now (server_in role) e }
 {
     if EVENTS <= e {
         return 0;
     }
-    if server {
-        boxes.servers[e as usize]
-    } else {
-        boxes.clients[e as usize]
+    match role {
+        Role::Client => boxes.clients[e as usize],
+        Role::Server => boxes.servers[e as usize],
     }
 }
 
@@ -263,10 +259,10 @@ pub fn keep(file: &[u8], boxes: &mut Boxes, e: u16)
 {
     if e < EVENTS {
         let event = trace::event_at(file, EventNo(e));
-        let row = row_of(event);
+        let (client, server) = seals_of(file, row_of(event));
         box_event(file, boxes, e, event);
-        boxes.clients[e as usize] = seal_of(file, row, false);
-        boxes.servers[e as usize] = seal_of(file, row, true);
+        boxes.clients[e as usize] = client;
+        boxes.servers[e as usize] = server;
         boxes.cards[e as usize] = cards::card_of(file, event);
     }
 }

@@ -1,80 +1,71 @@
 // The card of an event: what its message is, with its parts. It is written once, when the event is kept, and every
 // search compares cards instead of reading messages again.
-ghost use Rattle.std.specs.Prelude.{◌≡◌};
+ghost use Rattle.std.specs.Prelude.{◌≡◌, true};
 ghost use Rattle.forms.specs.Kinds.{public_of};
 ghost use Rattle.forms.specs.Forms.{kept_of, signed_of, remembered_of};
 ghost use Rattle.earlier.specs.Earlier.{heard_in};
 ghost use Rattle.earlier.specs.Cards.{crypt_card, said_card, noted_with, card_of, fits_card, fits_agents};
 
 use super::{Wanted, noted_by, said_by, said_to};
-use forms::leaves::Two;
+use forms::leaves::Crypt;
+use forms::{Hello, Kept, Remembered, Reply, Signed};
 use trace::Event;
 
-// A message as the searches compare it: agents by their numbers, other parts by their rows.
+// A message as the searches compare it.
 #[derive(Clone, Copy)]
 pub enum Card {
-    // CH: A, Na, SID, Pa.
-    Hello(u16, u16, u16, u16),
-    // SH: Nb, SID, Pb.
-    Reply(u16, u16, u16),
-    // {Agent B, PMS}: B, PMS.
-    Secret(u16, u16),
-    // {SID, Agent A, Agent B, M}: SID, A, B, M.
-    Session(u16, u16, u16, u16),
-    // cert(B, K): the key that it is under, B, K.
-    Certificate(u16, u16, u16),
-    // A Crypt under B's public key: the key, B, the body.
+    Hello(Hello),
+    Reply(Reply),
+    Secret(Kept),
+    Session(Remembered),
+    // A Crypt that is a certificate: the row of the key that it is under, and its parts.
+    Certificate(u16, Signed),
+    // A Crypt under an agent's public key: that key's row, the agent, the row of the body.
     Sent(u16, u16, u16),
-    // Any other Crypt: the key.
+    // Any other Crypt: the row of its key.
     Crypt(u16),
     // None that is looked for.
     Other,
 }
 
-fn crypt_card(file: &[u8], r: u16, c: Two) -> Card
-    ensures { result ≡ crypt_card c (signed_of file.now r) (public_of file.now c.first) }
+fn crypt_card(file: &[u8], r: u16, c: Crypt) -> Card
+    ensures { result ≡
+        crypt_card (record { is = true; first = c.key; second = c.body }) (signed_of file.now r) (public_of file.now c.key) }
 {
-    let s = forms::certificate(file, r);
-    if s.is {
-        return Card::Certificate(c.first, s.agent, s.key);
+    if let Some(s) = forms::certificate(file, r) {
+        return Card::Certificate(c.key, s);
     }
-    let k = forms::leaves::public_of(file, c.first);
-    if k.is {
-        return Card::Sent(c.first, k.first, c.second);
+    match forms::leaves::public_of(file, c.key) {
+        Some(agent) => Card::Sent(c.key, agent, c.body),
+        None => Card::Crypt(c.key),
     }
-    Card::Crypt(c.first)
 }
 
 fn said_card(file: &[u8], r: u16) -> Card
     ensures { result ≡ said_card file.now r }
 {
-    let c = forms::leaves::crypt_of(file, r);
-    if c.is {
+    if let Some(c) = forms::leaves::crypt_of(file, r) {
         return crypt_card(file, r, c);
     }
-    let m = forms::client_hello(file, r);
-    if m.is {
-        return Card::Hello(m.agent, m.na, m.sid, m.pa);
+    if let Some(m) = forms::client_hello(file, r) {
+        return Card::Hello(m);
     }
-    let n = forms::server_hello(file, r);
-    if n.is {
-        return Card::Reply(n.nb, n.sid, n.pb);
+    match forms::server_hello(file, r) {
+        Some(m) => Card::Reply(m),
+        None => Card::Other,
     }
-    Card::Other
 }
 
 fn noted_card(file: &[u8], r: u16) -> Card
     ensures { result ≡ noted_with (kept_of file.now r) (remembered_of file.now r) }
 {
-    let k = forms::secret_note(file, r);
-    if k.is {
-        return Card::Secret(k.agent, k.secret);
+    if let Some(m) = forms::secret_note(file, r) {
+        return Card::Secret(m);
     }
-    let n = forms::session_note(file, r);
-    if n.is {
-        return Card::Session(n.sid, n.a, n.b, n.m);
+    match forms::session_note(file, r) {
+        Some(m) => Card::Session(m),
+        None => Card::Other,
     }
-    Card::Other
 }
 
 pub fn card_of(file: &[u8], event: Event) -> Card
@@ -91,27 +82,31 @@ pub fn fits_card(wanted: Wanted, card: Card) -> bool
     ensures { result ≡ fits_card wanted card }
 {
     match (wanted, card) {
-        (Wanted::HelloFor(_, agent, sid), Card::Hello(a, _, s, _)) => a == agent && s == sid,
-        (Wanted::HelloBy(from, _, na, sid, pa), Card::Hello(a, n, s, p)) => {
-            a == from && n == na && s == sid && p == pa
+        (Wanted::HelloFor(_, agent, sid), Card::Hello(m)) => m.agent == agent && m.sid == sid,
+        (Wanted::HelloBy(from, _, na, sid, pa), Card::Hello(m)) => {
+            m.agent == from && m.na == na && m.sid == sid && m.pa == pa
         }
-        (Wanted::HelloTo(_, agent, na, sid, pa), Card::Hello(a, n, s, p)) => {
-            a == agent && n == na && s == sid && p == pa
+        (Wanted::HelloTo(_, agent, na, sid, pa), Card::Hello(m)) => {
+            m.agent == agent && m.na == na && m.sid == sid && m.pa == pa
         }
-        (Wanted::ReplyWith(_, nb), Card::Reply(n, _, _)) => n == nb,
-        (Wanted::ReplyTo(_, nb, sid, pb), Card::Reply(n, s, p)) => n == nb && s == sid && p == pb,
-        (Wanted::ReplyBy(_, _, nb, sid, pb), Card::Reply(n, s, p)) => {
-            n == nb && s == sid && p == pb
+        (Wanted::ReplyWith(_, nb), Card::Reply(m)) => m.nb == nb,
+        (Wanted::ReplyTo(_, nb, sid, pb), Card::Reply(m)) => m.nb == nb
+            && m.sid == sid
+            && m.pb == pb,
+        (Wanted::ReplyBy(_, _, nb, sid, pb), Card::Reply(m)) => {
+            m.nb == nb && m.sid == sid && m.pb == pb
         }
-        (Wanted::Cert(_, agent, key), Card::Certificate(_, a, k)) => a == agent && k == key,
-        (Wanted::Secret(_, agent, secret), Card::Secret(a, s)) => a == agent && s == secret,
-        (Wanted::Sent(to, secret), Card::Sent(_, a, s)) => a == to && s == secret,
-        (Wanted::Session(_, sid, a, b, m), Card::Session(s, x, y, z)) => {
-            s == sid && x == a && y == b && z == m
+        (Wanted::Cert(_, agent, key), Card::Certificate(_, m)) => m.agent == agent && m.key == key,
+        (Wanted::Secret(_, agent, secret), Card::Secret(m)) => {
+            m.agent == agent && m.secret == secret
         }
-        (Wanted::Under(_, key), Card::Certificate(k, _, _)) => k == key,
-        (Wanted::Under(_, key), Card::Sent(k, _, _)) => k == key,
-        (Wanted::Under(_, key), Card::Crypt(k)) => k == key,
+        (Wanted::Sent(to, secret), Card::Sent(_, agent, body)) => agent == to && body == secret,
+        (Wanted::Session(_, sid, a, b, m), Card::Session(n)) => {
+            n.sid == sid && n.a == a && n.b == b && n.m == m
+        }
+        (Wanted::Under(_, key), Card::Certificate(under, _)) => under == key,
+        (Wanted::Under(_, key), Card::Sent(under, _, _)) => under == key,
+        (Wanted::Under(_, key), Card::Crypt(under)) => under == key,
         _ => false,
     }
 }

@@ -33,7 +33,7 @@ pub struct NumberValue(pub u16);
 #[derive(Clone, Copy)]
 pub struct NonceValue(pub u16);
 
-#[derive(Clone, Copy)]
+#[derive(Clone, Copy, PartialEq, Eq, Debug)]
 pub enum Role {
     Client,
     Server,
