@@ -1,6 +1,6 @@
 // Rows: the five numbers of each, and what the row is.
 ghost use Rattle.std.specs.Prelude.{◌≡◌};
-ghost use Rattle.trace.specs.Rows.{fields_at, kind_at};
+ghost use Rattle.trace.specs.Rows.{fields_of, fields_at, kind_at};
 ghost use Rattle.trace.specs.Kinds.{Decodes, role_of, row_of};
 
 use super::limits::{ITEM, ROWS_AT};
@@ -23,14 +23,14 @@ pub enum Kind {
 
 // A number above 9, which names no kind.
 #[derive(Clone, Copy, PartialEq, Eq, Debug)]
-pub struct UnknownKind(pub u16);
+pub struct UnknownKind(pub u8);
 
-impl TryFrom<u16> for Kind {
+impl TryFrom<u8> for Kind {
     type Error = UnknownKind;
 
     ghost try_from_gives = { Decodes };
 
-    fn try_from(number: u16) -> Result<Self, UnknownKind> {
+    fn try_from(number: u8) -> Result<Self, UnknownKind> {
         match number {
             0 => Ok(Kind::Agent),
             1 => Ok(Kind::Number),
@@ -49,25 +49,33 @@ impl TryFrom<u16> for Kind {
 
 #[derive(Clone, Copy, PartialEq, Eq, Debug)]
 pub struct Fields {
-    pub kind: u16,
-    pub role: u16,
+    pub kind: u8,
+    pub role: u8,
     pub first: u16,
     pub second: u16,
     pub third: u16,
 }
 
+#[tactic(auto, unfolding(crate::specs::File::word))]
+fn fields_of(item: [u8; ITEM]) -> Fields
+    ensures { result ≡ fields_of item }
+{
+    let [kind, role, a, b, c, d, e, f] = item;
+    Fields {
+        kind,
+        role,
+        first: u16::from_le_bytes([a, b]),
+        second: u16::from_le_bytes([c, d]),
+        third: u16::from_le_bytes([e, f]),
+    }
+}
+
 // A row past the end of the file has zeros there.
+#[tactic(auto, unfolding(crate::specs::File::word))]
 pub fn fields_at(file: &[u8], r: u16) -> Fields
     ensures { result ≡ fields_at file.now r }
 {
-    let at = ROWS_AT + ITEM * usize::from(r);
-    Fields {
-        kind: bytes::byte_at(file, at),
-        role: bytes::byte_at(file, at + 1),
-        first: bytes::word_at(file, at + 2),
-        second: bytes::word_at(file, at + 4),
-        third: bytes::word_at(file, at + 6),
-    }
+    bytes::read_item(file, ROWS_AT + ITEM * usize::from(r), fields_of)
 }
 
 pub fn kind_at(file: &[u8], r: u16) -> Result<Kind, UnknownKind>
@@ -76,7 +84,7 @@ pub fn kind_at(file: &[u8], r: u16) -> Result<Kind, UnknownKind>
     Kind::try_from(bytes::byte_at(file, ROWS_AT + ITEM * usize::from(r)))
 }
 
-fn role_of(role: u16) -> Role
+fn role_of(role: u8) -> Role
     ensures { result ≡ role_of role }
 {
     if role == 0 {
