@@ -14,6 +14,7 @@ use Rattle.trace.specs.File.{row_limit, agent_limit}
 use Rattle.laws.specs.First.{any}
 use Rattle.laws.specs.Choose.{choose}
 use Rattle.laws.proofs.Both.{both, refuted, or_true, or_none, and_true, and_false}
+use Rattle.forms.specs.Kinds.{server_in}
 use Rattle.forms.specs.Forms.{sealed_of}
 use Rattle.closure.specs.Closure.{row_marked, mark_row, zeros}
 use Rattle.closure.proofs.Marks.{mark_same, mark_other, mark_room, none_marked}
@@ -24,6 +25,8 @@ use Rattle.earlier.specs.Boxes.{latest_to, next, chain_from, some}
 use Rattle.earlier.specs.Kept.{seal_mark, seal_at, Boxed}
 use Rattle.earlier.proofs.Chains.{Below, none, more, chain_step, chain_end, chain_below, some_same}
 use Rattle.earlier.proofs.Finding.{said_box, by_box, chain_any}
+use Rattle.accepts.specs.declared.Session.{Session}
+use Rattle.accepts.specs.declared.Side.{Side}
 use Rattle.accepts.specs.Tests.{said_finished, told_finished, both_finished}
 use Rattle.accepts.specs.Hashes.{told_here, mark_event, mark_all, answered_in, agreed_in, both_in}
 use Rattle.accepts.proofs.Branches.{or_assoc, hash_last}
@@ -153,40 +156,43 @@ reorder said own told false h = and_false (said && own && told)
 
 -- the two passes find what two searches would
 module _ (file boxes : List ℕ) (e : ℕ) (X : Boxed file boxes e) where
-  module _ (server : Bool) (from to sid a b m na nb : ℕ) where
+  module _ (by : Side) (s : Session) where
+    abbrev server : Bool
+    server = server_in by.role
+
     abbrev told : List ℕ
-    told = marks file (not server) from boxes e X
+    told = marks file (not server) by.from boxes e X
 
     abbrev agreed_by : Heard → Bool
-    agreed_by h = said_finished file h server from to sid a b m na nb && answered_in file told e (not server) from (sealed_of file h.row).hash
+    agreed_by h = said_finished file h by s && answered_in file told e (not server) by.from (sealed_of file h.row).hash
 
-    agreed_same : (i : ℕ) → i < e → agreed_in file boxes told e server from to sid a b m na nb i ≡ agreed_by (heard_at file i)
+    agreed_same : (i : ℕ) → i < e → agreed_in file boxes told e by s i ≡ agreed_by (heard_at file i)
     agreed_same i l =
         let h = heard_at file i in
         rw (hash_row file h.row)
-        (reorder (said_by h from to) (ltb 0 (seal_at boxes server i))
-        (answered_in file told e (not server) from (sealed_of file h.row).hash)
-        (said_finished file h server from to sid a b m na nb)
-        (λ t. ((both (said_by h from to) _ t).0, rw (X.seals server i l) (own t))))
+        (reorder (said_by h by.from by.to) (ltb 0 (seal_at boxes server i))
+        (answered_in file told e (not server) by.from (sealed_of file h.row).hash)
+        (said_finished file h by s)
+        (λ t. ((both (said_by h by.from by.to) _ t).0, rw (X.seals server i l) (own t))))
       where
-        own : said_finished file (heard_at file i) server from to sid a b m na nb ≡ true → ltb 0 (seal_mark file server (heard_at file i).row) ≡ true
+        own : said_finished file (heard_at file i) by s ≡ true → ltb 0 (seal_mark file server (heard_at file i).row) ≡ true
         own t =
             let h = heard_at file i in
             let f = sealed_of file h.row in
-            let p = both (said_by h from to) _ t in
-            let q = both8 f.is (eqb f.sid sid) (eqb f.a a) (eqb f.b b) (eqb f.m m) (eqb f.na na) (eqb f.nb nb) (choose server f.server (not f.server)) p.1 in
+            let p = both (said_by h by.from by.to) _ t in
+            let q = both8 f.is (eqb f.sid s.sid) (eqb f.a s.a) (eqb f.b s.b) (eqb f.m s.m) (eqb f.na s.na) (eqb f.nb s.nb) (choose server f.server (not f.server)) p.1 in
             seal_some (f.is && choose server f.server (not f.server)) (ltb f.hash row_limit) f.hash (rw (q.0, q.7) refl)
 
-    both_at : both_in file boxes e server from to sid a b m na nb ≡ both_finished file e server from to sid a b m na nb
+    both_at : both_in file boxes e by s ≡ both_finished file e by s
     unfolding both_in both_finished
     both_at =
-        let l : to % agent_limit < agent_limit = mod-lt to (omega arith) in
-        let low : latest_to boxes to ≤ e = X.links.low (to % agent_limit) (omega (arith, l)) in
-        some_same boxes _ agreed_same (chain_below boxes e (latest_to boxes to) low) ∙
-        chain_any file boxes e X.links agreed_by (to % agent_limit) (omega (arith, l))
-        (λ h t. by_box h from to (both (said_by h from to) _ (both _ _ t).0).0) ∙
+        let l : by.to % agent_limit < agent_limit = mod-lt by.to (omega arith) in
+        let low : latest_to boxes by.to ≤ e = X.links.low (by.to % agent_limit) (omega (arith, l)) in
+        some_same boxes _ agreed_same (chain_below boxes e (latest_to boxes by.to) low) ∙
+        chain_any file boxes e X.links agreed_by (by.to % agent_limit) (omega (arith, l))
+        (λ h t. by_box h by.from by.to (both (said_by h by.from by.to) _ (both _ _ t).0).0) ∙
         any_same _ _
-        (λ (i : ℕ). rw (answered_told file (not server) from boxes e X (sealed_of file (heard_at file i).row).hash) refl) e
+        (λ (i : ℕ). rw (answered_told file (not server) by.from boxes e X (sealed_of file (heard_at file i).row).hash) refl) e
 
   pub both_past : both_in file boxes e ≡ both_finished file e
-  both_past = λ i server from to sid a b m na nb. both_at server from to sid a b m na nb i
+  both_past = λ i by s. both_at by s i

@@ -13,7 +13,7 @@ returns-then-found c =
     sym
     (sym l.invariant ∙
     some_step x.boxes.now
-    (agreed_in x.file.now x.boxes.now x.marks.now x.e x.server x.from x.to x.sid x.a x.b x.m x.na x.nb)
+    (agreed_in x.file.now x.boxes.now x.marks.now x.e x.by x.s)
     l.link c.loop-link-test.true ∙
     rw (sym c.agreed_at-found.ensures ∙ c.if-found.true) refl)
 
@@ -30,7 +30,7 @@ loop-link-preserved c =
     rw c.next-link.ensures
     (sym
     (some_step x.boxes.now
-    (agreed_in x.file.now x.boxes.now x.marks.now x.e x.server x.from x.to x.sid x.a x.b x.m x.na x.nb)
+    (agreed_in x.file.now x.boxes.now x.marks.now x.e x.by x.s)
     l.link c.loop-link-test.true ∙
     rw (sym c.agreed_at-found.ensures ∙ c.if-found.false) refl) ∙
     l.invariant)
@@ -42,7 +42,7 @@ returns c =
     sym
     (sym l.invariant ∙
     some_end x.boxes.now
-    (agreed_in x.file.now x.boxes.now x.marks.now x.e x.server x.from x.to x.sid x.a x.b x.m x.na x.nb)
+    (agreed_in x.file.now x.boxes.now x.marks.now x.e x.by x.s)
     l.link (omega arith))
 
 pub loop-link-init : goal.loop-link-init

@@ -7,8 +7,8 @@ use Rattle.accepts.proofs.agreed_any.Given as goal
 
 abbrev pub invariant-loop-link : goal.invariant-loop-link
 invariant-loop-link l =
-    some (agreed_in l.file l.boxes l.marks l.e l.server l.from l.to l.sid l.a l.b l.m l.na l.nb) (chain_from l.boxes l.link) ≡
-    some (agreed_in l.file l.boxes l.marks l.e l.server l.from l.to l.sid l.a l.b l.m l.na l.nb) (chain_from l.boxes (latest_to l.boxes l.to))
+    some (agreed_in l.file l.boxes l.marks l.e l.by l.s) (chain_from l.boxes l.link) ≡
+    some (agreed_in l.file l.boxes l.marks l.e l.by l.s) (chain_from l.boxes (latest_to l.boxes l.by.to))
 
 abbrev pub decreases-loop-link : goal.decreases-loop-link
 decreases-loop-link l = l.link

@@ -2,6 +2,7 @@
 -- Assumes nothing.
 use mathlib.Core.Path.{refl, sym, ◌∙◌}
 use native.Mathlib.Omega.{arith}
+use Rattle.forms.specs.Kinds.{server_in}
 use Rattle.earlier.proofs.Chains.{next_falls}
 use Rattle.accepts.proofs.Hashes.{mark_more, mark_end}
 use Rattle.accepts.proofs.mark_told.Goals as goal
@@ -17,13 +18,13 @@ loop-link-preserved c =
     let a = c.args in
     let l = c.loop-link in
     rw (c.next-link.ensures, c.mark_event.ensures)
-    (sym (mark_more a.file.now a.server a.to a.boxes.now l.link l.marks c.loop-link-test.true) ∙ l.invariant)
+    (sym (mark_more a.file.now (server_in a.role) a.to a.boxes.now l.link l.marks c.loop-link-test.true) ∙ l.invariant)
 
 pub returns : goal.returns
 returns c =
     let a = c.args in
     let l = c.loop-link in
-    sym (mark_end a.file.now a.server a.to a.boxes.now l.link l.marks (omega arith)) ∙ l.invariant
+    sym (mark_end a.file.now (server_in a.role) a.to a.boxes.now l.link l.marks (omega arith)) ∙ l.invariant
 
 pub loop-link-init : goal.loop-link-init
 loop-link-init c = rw c.latest_to-link.ensures refl
