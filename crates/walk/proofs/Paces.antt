@@ -22,6 +22,8 @@ use Rattle.earlier.specs.Boxes.{found}
 use Rattle.earlier.specs.Kept.{kept_in, Boxed}
 use Rattle.earlier.proofs.Keeping.{keep_boxed}
 use Rattle.earlier.proofs.Finding.{found_past}
+use Rattle.accepts.specs.declared.Session.{Session}
+use Rattle.accepts.specs.declared.Side.{Side}
 use Rattle.accepts.specs.Hashes.{both_in}
 use Rattle.accepts.proofs.Hashes.{both_past}
 use Rattle.rules.specs.Tests.{key_exchange}
@@ -257,7 +259,7 @@ walk_ends file bytes₀ N i bytes bytes' e w q =
     (sym (ap (λ (x : Walked). x.length) f), q ∙ sym (ap (λ (x : Walked). x.bytes) f))
 
 -- the lowest rule, by whether the event is a Says
-module _ (file used known : List ℕ) (find : Wanted → Bool) (both : Bool → (from to sid a b m na nb : ℕ) → Bool) (h : Heard) where
+module _ (file used known : List ℕ) (find : Wanted → Bool) (both : Side → Session → Bool) (h : Heard) where
   by_says : {b : Bool} → h.says ≡ b → choose b (lowest_said file used known find h) (lowest_noted file known find both h) ≡ lowest_rule file used known find both h
   unfolding lowest_rule
   by_says q = ap (λ (b : Bool). choose b (lowest_said file used known find h) (lowest_noted file known find both h)) (sym q)

@@ -10,9 +10,11 @@ use Rattle.earlier.specs.declared.Wanted.{Wanted}
 use Rattle.earlier.specs.Earlier.{heard_at, past}
 use Rattle.rules.specs.Tests.{fake, spy_keys, client_hello, server_hello, certificate, key_exchange, cert_verify, oops}
 use Rattle.finished.specs.Tests.{client_finished, server_finished, client_resume, server_resume}
+use Rattle.accepts.specs.declared.Session.{Session}
+use Rattle.accepts.specs.declared.Side.{Side}
 use Rattle.accepts.specs.Tests.{both_finished, client_accepts, server_accepts}
 
-unfoldable pub lowest_noted : List ℕ → (known : List ℕ) → (Wanted → Bool) → (Bool → (from to sid a b m na nb : ℕ) → Bool) → Heard → ℕ
+unfoldable pub lowest_noted : List ℕ → (known : List ℕ) → (Wanted → Bool) → (Side → Session → Bool) → Heard → ℕ
 lowest_noted file known find both h = choose (spy_keys file known h) 2 (choose (client_accepts file find both h) 10 (choose (server_accepts file find both h) 11 0))
 
 unfoldable pub lowest_crypt : List ℕ → (Wanted → Bool) → Heard → ℕ
@@ -27,7 +29,7 @@ unfoldable pub lowest_said : List ℕ → (used known : List ℕ) → (Wanted �
 lowest_said file used known find h =
     choose (fake file known h) 1 (choose (crypt_of file h.row).is (lowest_crypt file find h) (lowest_plain file used find h))
 
-unfoldable pub lowest_rule : List ℕ → (used known : List ℕ) → (Wanted → Bool) → (Bool → (from to sid a b m na nb : ℕ) → Bool) → Heard → ℕ
+unfoldable pub lowest_rule : List ℕ → (used known : List ℕ) → (Wanted → Bool) → (Side → Session → Bool) → Heard → ℕ
 lowest_rule file used known find both h = choose h.says (lowest_said file used known find h) (lowest_noted file known find both h)
 
 -- of event e after those before it; and whether event e and the next are rule 6's

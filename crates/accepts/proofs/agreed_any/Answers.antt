@@ -17,12 +17,6 @@ returns-then-found c =
     l.link c.loop-link-test.true ∙
     rw (sym c.agreed_at-found.ensures ∙ c.if-found.true) refl)
 
-pub loop-link-smaller : goal.loop-link-smaller
-loop-link-smaller c =
-    let x = c.args in
-    let l = c.loop-link in
-    rw c.next-link.ensures (next_falls x.boxes.now l.link c.loop-link-test.true)
-
 pub loop-link-preserved : goal.loop-link-preserved
 loop-link-preserved c =
     let x = c.args in
@@ -44,6 +38,3 @@ returns c =
     some_end x.boxes.now
     (agreed_in x.file.now x.boxes.now x.marks.now x.e x.by x.s)
     l.link (omega arith))
-
-pub loop-link-init : goal.loop-link-init
-loop-link-init c = rw c.latest_to-link.ensures refl

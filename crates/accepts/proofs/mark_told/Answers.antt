@@ -7,12 +7,6 @@ use Rattle.earlier.proofs.Chains.{next_falls}
 use Rattle.accepts.proofs.Hashes.{mark_more, mark_end}
 use Rattle.accepts.proofs.mark_told.Goals as goal
 
-pub loop-link-smaller : goal.loop-link-smaller
-loop-link-smaller c =
-    let a = c.args in
-    let l = c.loop-link in
-    rw c.next-link.ensures (next_falls a.boxes.now l.link c.loop-link-test.true)
-
 pub loop-link-preserved : goal.loop-link-preserved
 loop-link-preserved c =
     let a = c.args in
@@ -25,6 +19,3 @@ returns c =
     let a = c.args in
     let l = c.loop-link in
     sym (mark_end a.file.now (server_in a.role) a.to a.boxes.now l.link l.marks (omega arith)) ∙ l.invariant
-
-pub loop-link-init : goal.loop-link-init
-loop-link-init c = rw c.latest_to-link.ensures refl
