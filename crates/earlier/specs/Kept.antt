@@ -1,13 +1,26 @@
 -- What is kept of each event: its place in its box, the hash of its Finished, its card. No promise cites this file.
-use Rattle.std.specs.Prelude.{ℕ, suc, ◌+◌, ◌-◌, ◌*◌, ◌%◌, ◌<◌, ◌≤◌, Bool, true, false, ◌&&◌, not, List, ◌≡◌, ltb, length, get_or, set}
+use Rattle.std.specs.Prelude.{ℕ, suc, ◌+◌, ◌-◌, ◌*◌, ◌%◌, ◌<◌, ◌≤◌, Bool, true, false, ◌&&◌, not, List, ◌≡◌, ltb, length, get_or, set, replicate}
 use Rattle.trace.specs.File.{row_limit, event_limit}
 use Rattle.laws.specs.Choose.{choose}
 use Rattle.forms.specs.Forms.{sealed_of}
-use Rattle.earlier.specs.declared.Heard.{Heard}
-use Rattle.earlier.specs.declared.cards.Card.{Card}
+use Rattle.earlier.specs.Heard.{Heard}
+use Rattle.earlier.specs.declared.cards.Card.TheVariants as card
+use Rattle.earlier.specs.declared.boxes.Boxes.{Boxes}
 use Rattle.earlier.specs.Earlier.{heard_at, same_heard}
 use Rattle.earlier.specs.Cards.{card_of}
-use Rattle.earlier.specs.Boxes.{box_count, links_at, slot_count, slots_at, clients_at, servers_at, cards_at, card_size, box_room, box_of, behind, card_at}
+use Rattle.earlier.specs.Boxes.{box_count, slot_count, box_of, behind, card_at}
+
+-- before any event
+abbrev pub none_kept : Boxes
+none_kept =
+    record {
+      heads = replicate box_count 0;
+      links = replicate event_limit 0;
+      slots = replicate slot_count 0;
+      clients = replicate event_limit 0;
+      servers = replicate event_limit 0;
+      cards = replicate event_limit card.Other;
+    }
 
 -- equal events have one slot, which leads to the last of them that was kept; others may share it
 abbrev pub slot_of : Heard → ℕ
@@ -22,46 +35,53 @@ seal_mark file server r =
     let f = sealed_of file r in
     choose (f.is && choose server f.server (not f.server)) (choose (ltb f.hash row_limit) (f.hash + 1) 65535) 0
 
-abbrev pub seal_at : List ℕ → Bool → ℕ → ℕ
-seal_at boxes server e = choose (ltb e event_limit) (get_or boxes (choose server servers_at clients_at + e) 0) 0
+abbrev pub seal_at : Boxes → Bool → ℕ → ℕ
+seal_at boxes server e = choose (ltb e event_limit) (get_or (choose server boxes.servers boxes.clients) e 0) 0
 
 -- event e in front of its box, unless it is known that one that equals it is kept
-abbrev pub boxed_in : (file boxes : List ℕ) → ℕ → List ℕ
+abbrev pub boxed_in : List ℕ → Boxes → ℕ → Boxes
 boxed_in file boxes e =
-    let at = box_of (heard_at file e) in
-    let slot = slots_at + slot_of (heard_at file e) in
-    choose (not (is_again file e (get_or boxes slot 0) (heard_at file e)))
-    (set (set (set boxes (links_at + e) (get_or boxes at 0)) at (e + 1)) slot (e + 1))
+    let h = heard_at file e in
+    let b = box_of h in
+    choose (is_again file e (get_or boxes.slots (slot_of h) 0) h) boxes
+    (record boxes {
+      heads = set boxes.heads b (e + 1);
+      links = set boxes.links e (get_or boxes.heads b 0);
+      slots = set boxes.slots (slot_of h) (e + 1);
+    })
+
+-- and the hash of its Finished, and its card
+abbrev pub kept_in : List ℕ → Boxes → ℕ → Boxes
+kept_in file boxes e =
+    let h = heard_at file e in
+    let boxed = boxed_in file boxes e in
+    choose (ltb e event_limit)
+    (record boxed {
+      clients = set boxed.clients e (seal_mark file false h.row);
+      servers = set boxed.servers e (seal_mark file true h.row);
+      cards = set boxed.cards e (card_of file h);
+    })
     boxes
 
-abbrev pub sealed_in : (file boxes : List ℕ) → ℕ → List ℕ
-sealed_in file boxes e =
-    let row = (heard_at file e).row in
-    set (set boxes (clients_at + e) (seal_mark file false row)) (servers_at + e) (seal_mark file true row)
-
-abbrev pub carded_in : List ℕ → ℕ → Card → List ℕ
-carded_in boxes e card =
-    let at = cards_at + card_size * e in
-    set (set (set (set (set boxes at card.shape) (at + 1) card.first) (at + 2) card.second) (at + 3) card.third) (at + 4) card.fourth
-
-abbrev pub kept_in : (file boxes : List ℕ) → ℕ → List ℕ
-kept_in file boxes e = choose (ltb e event_limit) (carded_in (sealed_in file (boxed_in file boxes e) e) e (card_of file (heard_at file e))) boxes
-
 -- event s is on the chain that begins at the link
-pub data Reach (boxes : List ℕ) : ℕ → ℕ → Type 0 where
-  here : {link s : ℕ} → link ≡ suc s → Reach boxes link s
-  further : {link s : ℕ} → 0 < link → Reach boxes (behind boxes (link - 1)) s → Reach boxes link s
+pub data Reach (links : List ℕ) : ℕ → ℕ → Type 0 where
+  here : {link s : ℕ} → link ≡ suc s → Reach links link s
+  further : {link s : ℕ} → 0 < link → Reach links (behind links (link - 1)) s → Reach links link s
 
 -- the events before e are in their boxes, each or one that equals it
-pub record Linked (file boxes : List ℕ) (e : ℕ) : Type 0 where
-  pub room : length boxes ≡ box_room
+pub record Linked (file : List ℕ) (boxes : Boxes) (e : ℕ) : Type 0 where
+  pub heads_room : length boxes.heads ≡ box_count
+  pub links_room : length boxes.links ≡ event_limit
   pub few : e ≤ event_limit
-  pub falls : (j : ℕ) → j < event_limit → behind boxes j ≤ j
-  pub low : (b : ℕ) → b < box_count → get_or boxes b 0 ≤ e
-  pub kept : (j : ℕ) → j < e → (s : ℕ) × Reach boxes (get_or boxes (box_of (heard_at file j)) 0) s × (heard_at file s ≡ heard_at file j)
+  pub falls : (j : ℕ) → j < event_limit → behind boxes.links j ≤ j
+  pub low : (b : ℕ) → b < box_count → get_or boxes.heads b 0 ≤ e
+  pub kept : (j : ℕ) → j < e → (s : ℕ) × Reach boxes.links (get_or boxes.heads (box_of (heard_at file j)) 0) s × (heard_at file s ≡ heard_at file j)
 
 -- and the hashes of their Finished and their cards are known
-pub record Boxed (file boxes : List ℕ) (e : ℕ) : Type 0 where
+pub record Boxed (file : List ℕ) (boxes : Boxes) (e : ℕ) : Type 0 where
   pub links : Linked file boxes e
+  pub clients_room : length boxes.clients ≡ event_limit
+  pub servers_room : length boxes.servers ≡ event_limit
+  pub cards_room : length boxes.cards ≡ event_limit
   pub seals : (server : Bool) (j : ℕ) → j < e → seal_at boxes server j ≡ seal_mark file server (heard_at file j).row
   pub cards : (j : ℕ) → j < e → card_at boxes j ≡ card_of file (heard_at file j)

@@ -1,3 +1,4 @@
+pub mod Heard
 pub mod Earlier
 pub mod Cards
 pub mod Boxes

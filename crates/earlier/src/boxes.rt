@@ -1,87 +1,98 @@
 // Earlier events by their boxes, so that a search looks only where its event can lie.
 //
-// An event lies in the box of its receiver, and a note in one of its agent's own. The array has 128 boxes, 512
-// events, 1,024 slots, and for each event the hash of its Finished, the client's and the server's, and its card. A box leads to
-// its latest event, an event to the one before it in its box, and a slot to the last event that was kept there: by
-// one more than the event's number, or 0 for none. An event that equals the one at its slot is not kept again, so
-// that repeats cost nothing.
-ghost use Rattle.std.specs.Prelude.{◌≡◌, ◌<◌, get_or, ltb, ◌&&◌};
+// An event lies in the box of its receiver, and a note in one of its agent's own. A box leads to its latest event, an
+// event to the one before it in its box, and a slot to the last event that was kept there: by one more than the
+// event's number, or 0 for none. An event that equals the one at its slot is not kept again, so that repeats cost
+// nothing.
+ghost use Rattle.std.specs.Prelude.{◌≡◌, ◌<◌, ltb, ◌&&◌, IfSome, false, true};
 ghost use Rattle.trace.specs.File.{event_limit, agent_limit};
 ghost use Rattle.laws.specs.First.{any};
-ghost use Rattle.earlier.specs.Earlier.{heard_at};
-ghost use Rattle.earlier.specs.Cards.{look_for, fits_card};
-ghost use Rattle.earlier.specs.Boxes.{box_count, slot_count, box_of, box_for, latest_to, next, chain_from, some, card_at, fits_at};
-ghost use Rattle.earlier.specs.Kept.{slot_of, is_again, seal_mark, seal_at, boxed_in, carded_in, kept_in};
+ghost use Rattle.forms.specs.Kinds.{server_in};
+ghost use Rattle.earlier.specs.Earlier.{heard_in, heard_at};
+ghost use Rattle.earlier.specs.Boxes.{box_count, slot_count, box_of, box_for, latest_to, next, chain_from, rest_of, some, fits_at, found_in, found};
+ghost use Rattle.std.specs.Iterator.{YieldsFirst, item_count};
+ghost use Rattle.earlier.specs.Kept.{none_kept, slot_of, is_again, seal_mark, seal_at, boxed_in, kept_in};
 
-use super::cards::{Card, Look};
-use super::{Heard, Wanted, cards, hear, same_heard};
+use super::cards::Card;
+use super::{Wanted, cards};
 use trace::limits::{AGENT_LIMIT, AGENTS, EVENT_LIMIT, EVENTS, ROWS};
+use trace::{Event, EventNo, Role};
 
-// The parts of the array, one behind the other: first the boxes of receivers, then those of notes.
+// First the boxes of receivers, then those of notes.
 const NOTES: u16 = AGENTS;
 
-pub(crate) const BOXES: usize = 2 * AGENT_LIMIT;
-
-const NO_BOX: u16 = BOXES as u16;
-
-const LINKS_AT: usize = BOXES;
-
-const SLOTS_AT: usize = LINKS_AT + EVENT_LIMIT;
+const BOXES: usize = 2 * AGENT_LIMIT;
 
 const SLOTS: usize = 1024;
-
-const CLIENTS_AT: usize = SLOTS_AT + SLOTS;
-
-const SERVERS_AT: usize = CLIENTS_AT + EVENT_LIMIT;
-
-const CARDS_AT: usize = SERVERS_AT + EVENT_LIMIT;
-
-const CARD: usize = 5;
-
-// The whole array.
-pub const BOX_ROOM: usize = CARDS_AT + CARD * EVENT_LIMIT;
 
 // A hash past the rows that have marks.
 const FAR: u16 = 65535;
 
-fn box_of(h: Heard) -> u16
-    ensures { (result ≡ box_of h) × (result < box_count) }
-{
-    if h.says {
-        h.to % AGENTS
-    } else {
-        NOTES + h.from % AGENTS
+// The heads of the boxes; of each event the link to the one before it in its box, the hash of its Finished as a
+// client's and as a server's, and its card; and the slots.
+pub struct Boxes {
+    heads: [u16; BOXES],
+    links: [u16; EVENT_LIMIT],
+    slots: [u16; SLOTS],
+    clients: [u16; EVENT_LIMIT],
+    servers: [u16; EVENT_LIMIT],
+    cards: [Card; EVENT_LIMIT],
+}
+
+impl Boxes {
+    // Before any event.
+    pub fn new() -> Boxes
+        ensures { result ≡ none_kept }
+    {
+        Boxes {
+            heads: [0; BOXES],
+            links: [0; EVENT_LIMIT],
+            slots: [0; SLOTS],
+            clients: [0; EVENT_LIMIT],
+            servers: [0; EVENT_LIMIT],
+            cards: [Card::Other; EVENT_LIMIT],
+        }
     }
 }
 
-// The box of all that is wanted; what lies under a key can be in any, and has none.
-pub(crate) fn box_for(wanted: Wanted) -> u16
-    ensures { result ≡ box_for wanted }
+fn box_of(event: Event) -> u16
+    ensures { (result ≡ box_of (heard_in event)) × (result < box_count) }
+{
+    match event {
+        Event::Says(_, receiver, _) => receiver.0 % AGENTS,
+        Event::Notes(agent, _) => NOTES + agent.0 % AGENTS,
+    }
+}
+
+// The box of what is wanted; what lies under a key can be in any, and has none.
+fn box_for(wanted: Wanted) -> Option<u16>
+    ensures value { result ≡ box_for wanted }
+    ensures in_range { IfSome result (λ b. b < box_count) }
 {
     match wanted {
-        Wanted::HelloFor(to, _, _) => to % AGENTS,
-        Wanted::HelloBy(_, to, _, _, _) => to % AGENTS,
-        Wanted::HelloTo(to, _, _, _, _) => to % AGENTS,
-        Wanted::ReplyWith(to, _) => to % AGENTS,
-        Wanted::ReplyTo(to, _, _, _) => to % AGENTS,
-        Wanted::ReplyBy(_, to, _, _, _) => to % AGENTS,
-        Wanted::Cert(to, _, _) => to % AGENTS,
-        Wanted::Secret(from, _, _) => NOTES + from % AGENTS,
-        Wanted::Sent(to, _) => to % AGENTS,
-        Wanted::Session(from, _, _, _, _) => NOTES + from % AGENTS,
-        Wanted::Under(_, _) => NO_BOX,
+        Wanted::HelloFor(to, _, _) => Some(to % AGENTS),
+        Wanted::HelloBy(_, to, _, _, _) => Some(to % AGENTS),
+        Wanted::HelloTo(to, _, _, _, _) => Some(to % AGENTS),
+        Wanted::ReplyWith(to, _) => Some(to % AGENTS),
+        Wanted::ReplyTo(to, _, _, _) => Some(to % AGENTS),
+        Wanted::ReplyBy(_, to, _, _, _) => Some(to % AGENTS),
+        Wanted::Cert(to, _, _) => Some(to % AGENTS),
+        Wanted::Secret(from, _, _) => Some(NOTES + from % AGENTS),
+        Wanted::Sent(to, _) => Some(to % AGENTS),
+        Wanted::Session(from, _, _, _, _) => Some(NOTES + from % AGENTS),
+        Wanted::Under(_, _) => None,
     }
 }
 
 // The latest event that was said to an agent: one more than its number, or 0.
-pub fn latest_to(boxes: &[u16; BOX_ROOM], to: u16) -> u16
+pub fn latest_to(boxes: &Boxes, to: u16) -> u16
     ensures { result ≡ latest_to boxes.now to }
 {
-    boxes[(to % AGENTS) as usize]
+    boxes.heads[(to % AGENTS) as usize]
 }
 
-// The next link of a chain. It falls, so that every walk ends, whatever the array holds.
-pub fn next(boxes: &[u16; BOX_ROOM], link: u16) -> u16
+// The next link of a chain. It falls, so that every walk ends, whatever the links are.
+pub fn next(boxes: &Boxes, link: u16) -> u16
     ensures { result ≡ next boxes.now link }
 {
     if EVENTS < link {
@@ -90,170 +101,168 @@ pub fn next(boxes: &[u16; BOX_ROOM], link: u16) -> u16
     if link == 0 {
         return 0;
     }
-    let l = boxes[LINKS_AT + ((link - 1) as usize)];
+    let l = boxes.links[(link - 1) as usize];
     if l < link { l } else { 0 }
 }
 
-// Whether the card of event j is what is asked for: the shape first, since most differ there.
-fn fits_card(boxes: &[u16; BOX_ROOM], look: Look, j: u16) -> bool
-    ensures { result ≡ (ltb j event_limit && fits_card look (card_at boxes.now j)) }
-{
-    if EVENTS <= j {
-        return false;
-    }
-    let at = CARDS_AT + CARD * (j as usize);
-    if boxes[at] != look.shape {
-        return false;
-    }
-    cards::fits_part(look.first, boxes[at + 1])
-        & cards::fits_part(look.second, boxes[at + 2])
-        & cards::fits_part(look.third, boxes[at + 3])
-        & cards::fits_part(look.fourth, boxes[at + 4])
-}
-
-// Whether event j is what is wanted.
-fn fits(file: &[u8], boxes: &[u16; BOX_ROOM], wanted: Wanted, look: Look, j: u16) -> bool
-    requires { look ≡ look_for wanted }
+// Whether event j is what is wanted: its card first, since most differ there.
+fn fits(file: &[u8], boxes: &Boxes, wanted: Wanted, j: u16) -> bool
     ensures { result ≡ fits_at file.now boxes.now wanted j }
 {
-    let card = fits_card(boxes, look, j);
-    if card {
-        cards::fits_agents(wanted, hear(file, j))
-    } else {
-        false
+    j < EVENTS
+        && cards::fits_card(wanted, boxes.cards[j as usize])
+        && cards::fits_agents(wanted, trace::event_at(file, EventNo(j)))
+}
+
+// The events of a chain, the latest first.
+#[derive(Drop)]
+pub struct Chain<'a> {
+    boxes: &'a Boxes,
+    link: u16,
+}
+
+impl<'a> Iterator for Chain<'a> {
+    type Item = u16;
+
+    ghost next_gives = { YieldsFirst rest_of };
+
+    ghost remaining = { item_count rest_of };
+
+    #[tactic(auto, using(crate::proofs::Chains::chain_step, crate::proofs::Chains::chain_end))]
+    fn next(&mut self) -> Option<u16> {
+        if self.link == 0 {
+            return None;
+        }
+        let e = self.link - 1;
+        self.link = next(self.boxes, self.link);
+        Some(e)
     }
 }
 
-// Whether an event of the chain is what is wanted, the latest first.
-pub(crate) fn search(
-    file: &[u8],
-    boxes: &[u16; BOX_ROOM],
-    wanted: Wanted,
-    look: Look,
-    head: u16,
-) -> bool
-    requires { look ≡ look_for wanted }
+// The events from a link on.
+fn events_from(boxes: &Boxes, link: u16) -> Chain
+    ensures { rest_of result ≡ chain_from boxes.now link }
+{
+    Chain { boxes, link }
+}
+
+// The events that were said to an agent, and those that share its box.
+pub fn events_to(boxes: &Boxes, to: u16) -> Chain
+    ensures { rest_of result ≡ chain_from boxes.now (latest_to boxes.now to) }
+{
+    events_from(boxes, latest_to(boxes, to))
+}
+
+// Whether an event of the chain is what is wanted.
+fn search(file: &[u8], boxes: &Boxes, wanted: Wanted, head: u16) -> bool
     ensures { result ≡ some (fits_at file.now boxes.now wanted) (chain_from boxes.now head) }
 {
-    let mut link = head;
-    while 0 < link {
-        let found = fits(file, boxes, wanted, look, link - 1);
-        if found {
-            return true;
-        }
-        link = next(boxes, link);
-    }
-    false
+    events_from(boxes, head).any(|e| fits(file, boxes, wanted, e))
 }
 
 // The same in the boxes of all receivers.
-pub(crate) fn search_all(file: &[u8], boxes: &[u16; BOX_ROOM], wanted: Wanted, look: Look) -> bool
-    requires { look ≡ look_for wanted }
-    ensures { result ≡ any (λ b. some (fits_at file.now boxes.now wanted)
-        (chain_from boxes.now (get_or boxes.now b 0))) agent_limit }
+#[tactic(auto, using(laws::proofs::First::any_none))]
+fn search_all(file: &[u8], boxes: &Boxes, wanted: Wanted) -> bool
+    ensures { result ≡ any (found_in file.now boxes.now wanted) agent_limit }
 {
-    let mut b: u16 = 0;
-    while b < AGENTS {
-        let found = search(file, boxes, wanted, look, boxes[b as usize]);
-        if found {
+    for b in 0..AGENT_LIMIT {
+        if search(file, boxes, wanted, boxes.heads[b]) {
             return true;
         }
-        b += 1;
     }
     false
 }
 
+// Whether some earlier event is what is wanted.
+pub fn happened(file: &[u8], boxes: &Boxes, wanted: Wanted) -> bool
+    ensures { result ≡ found file.now boxes.now wanted }
+{
+    match box_for(wanted) {
+        Some(b) => search(file, boxes, wanted, boxes.heads[b as usize]),
+        None => search_all(file, boxes, wanted),
+    }
+}
+
 // Odd factors spread the events of a usual file over all slots.
-fn slot_of(h: Heard) -> usize
-    ensures { (result ≡ slot_of h) × (result < slot_count) }
+fn slot_of(event: Event) -> usize
+    ensures { (result ≡ slot_of (heard_in event)) × (result < slot_count) }
 {
-    ((h.row as usize) * 5 + (h.from as usize) * 97 + (h.to as usize) * 31) % SLOTS
+    let (row, from, to) = match event {
+        Event::Says(sender, receiver, row) => (row.0, sender.0, receiver.0),
+        Event::Notes(agent, row) => (row.0, agent.0, 0),
+    };
+    (usize::from(row) * 5 + usize::from(from) * 97 + usize::from(to) * 31) % SLOTS
 }
 
-// Whether the link leads to an event before e that equals h.
-fn is_again(file: &[u8], e: u16, link: u16, h: Heard) -> bool
-    ensures { result ≡ is_again file.now e link h }
+// Whether the link leads to an event before e that equals this one.
+fn is_again(file: &[u8], e: u16, link: u16, event: Event) -> bool
+    ensures { result ≡ is_again file.now e link (heard_in event) }
 {
-    if link == 0 {
-        return false;
-    }
-    if e < link {
-        return false;
-    }
-    let g = hear(file, link - 1);
-    same_heard(g, h)
+    0 < link && link <= e && trace::event_at(file, EventNo(link - 1)) == event
 }
 
-// The hash of a Finished of that side, by one more than its row, or 0 where the row is none.
-fn seal_of(file: &[u8], r: u16, server: bool) -> u16
-    ensures { result ≡ seal_mark file.now server r }
+// The hash of a client's Finished and of a server's, by one more than its row, or 0 where the row is none.
+fn seals_of(file: &[u8], r: u16) -> (u16, u16)
+    ensures { result ≡ (seal_mark file.now false r, seal_mark file.now true r) }
 {
-    let own = forms::under_key(file, r, server);
-    if own {
-        let f = forms::finished(file, r);
-        let side = forms::on_side(server, f.server);
-        if (f.is) & side {
-            if f.hash < ROWS {
-                return f.hash + 1;
-            }
-            return FAR;
-        }
+    let Some(f) = forms::finished(file, r) else {
+        return (0, 0);
+    };
+    let seal = if f.hash < ROWS { f.hash + 1 } else { FAR };
+    match f.role {
+        Role::Client => (seal, 0),
+        Role::Server => (0, seal),
     }
-    0
 }
 
-// What `seal_of` said of an event's row when it was kept.
-pub fn sealed(boxes: &[u16; BOX_ROOM], server: bool, e: u16) -> u16
-    ensures { result ≡ seal_at boxes.now server e }
+// What `seals_of` said of an event's row when it was kept.
+pub fn sealed(boxes: &Boxes, role: Role, e: u16) -> u16
+    ensures { result ≡ seal_at boxes.now (server_in role) e }
 {
     if EVENTS <= e {
         return 0;
     }
-    if server {
-        boxes[SERVERS_AT + (e as usize)]
-    } else {
-        boxes[CLIENTS_AT + (e as usize)]
+    match role {
+        Role::Client => boxes.clients[e as usize],
+        Role::Server => boxes.servers[e as usize],
     }
 }
 
-// Event e, which is h, is put into its box, unless its slot leads to one that equals it.
-fn box_event(file: &[u8], boxes: &mut [u16; BOX_ROOM], e: u16, h: Heard)
+// Event e is put into its box, unless its slot leads to one that equals it.
+fn box_event(file: &[u8], boxes: &mut Boxes, e: u16, event: Event)
     requires in_range { e < event_limit }
-    requires heard { h ≡ heard_at file.now e }
+    requires heard { heard_in event ≡ heard_at file.now e }
     ensures { boxes.new ≡ boxed_in file.now boxes.old e }
 {
-    let at = box_of(h) as usize;
-    let slot = SLOTS_AT + slot_of(h);
-    let again = is_again(file, e, boxes[slot], h);
+    let b = box_of(event) as usize;
+    let slot = slot_of(event);
+    let again = is_again(file, e, boxes.slots[slot], event);
     if !again {
-        boxes[LINKS_AT + (e as usize)] = boxes[at];
-        boxes[at] = e + 1;
-        boxes[slot] = e + 1;
+        boxes.links[e as usize] = boxes.heads[b];
+        boxes.heads[b] = e + 1;
+        boxes.slots[slot] = e + 1;
     }
 }
 
-// The card of event e is written down.
-fn keep_card(boxes: &mut [u16; BOX_ROOM], e: u16, card: Card)
-    requires { e < event_limit }
-    ensures { boxes.new ≡ carded_in boxes.old e card }
+fn row_of(event: Event) -> u16
+    ensures { result ≡ (heard_in event).row }
 {
-    let at = CARDS_AT + CARD * (e as usize);
-    boxes[at] = card.shape;
-    boxes[at + 1] = card.first;
-    boxes[at + 2] = card.second;
-    boxes[at + 3] = card.third;
-    boxes[at + 4] = card.fourth;
+    match event {
+        Event::Says(_, _, row) => row.0,
+        Event::Notes(_, row) => row.0,
+    }
 }
 
 // Event e is kept: in its box, by the hash of its Finished, and by its card.
-pub fn keep(file: &[u8], boxes: &mut [u16; BOX_ROOM], e: u16)
+pub fn keep(file: &[u8], boxes: &mut Boxes, e: u16)
     ensures { boxes.new ≡ kept_in file.now boxes.old e }
 {
     if e < EVENTS {
-        let h = hear(file, e);
-        box_event(file, boxes, e, h);
-        boxes[CLIENTS_AT + (e as usize)] = seal_of(file, h.row, false);
-        boxes[SERVERS_AT + (e as usize)] = seal_of(file, h.row, true);
-        keep_card(boxes, e, cards::card_of(file, h));
+        let event = trace::event_at(file, EventNo(e));
+        let (client, server) = seals_of(file, row_of(event));
+        box_event(file, boxes, e, event);
+        boxes.clients[e as usize] = client;
+        boxes.servers[e as usize] = server;
+        boxes.cards[e as usize] = cards::card_of(file, event);
     }
 }

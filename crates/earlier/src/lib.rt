@@ -5,19 +5,10 @@ pub mod boxes;
 mod cards;
 
 ghost use Rattle.std.specs.Prelude.{◌≡◌};
-ghost use Rattle.earlier.specs.Earlier.{heard_at, said_to, said_by, noted_by, same_heard};
-ghost use Rattle.earlier.specs.Boxes.{found};
+ghost use Rattle.earlier.specs.Earlier.{heard_in, said_to, said_by, noted_by};
 
-const SAYS: u16 = 0;
-
-// An event, flat: a note has no receiver.
-#[derive(Clone, Copy)]
-pub struct Heard {
-    pub says: bool,
-    pub from: u16,
-    pub to: u16,
-    pub row: u16,
-}
+pub use boxes::{Boxes, happened};
+use trace::Event;
 
 // What a rule looks for: agents by their numbers, other parts by their rows.
 #[derive(Clone, Copy)]
@@ -46,63 +37,23 @@ pub enum Wanted {
     Under(u16, u16),
 }
 
-pub fn hear(file: &[u8], e: u16) -> Heard
-    ensures { result ≡ heard_at file.now e }
+// Whether the event says something to this agent.
+pub fn said_to(event: Event, to: u16) -> bool
+    ensures { result ≡ said_to (heard_in event) to }
 {
-    let p = trace::events::parts_at(file, e);
-    if p.kind == SAYS {
-        Heard {
-            says: true,
-            from: p.sender,
-            to: p.receiver,
-            row: p.row,
-        }
-    } else {
-        Heard {
-            says: false,
-            from: p.sender,
-            to: 0,
-            row: p.row,
-        }
-    }
+    matches!(event, Event::Says(_, receiver, _) if receiver.0 == to)
 }
 
-pub fn said_to(h: Heard, to: u16) -> bool
-    ensures { result ≡ said_to h to }
+// Whether one agent says something to the other.
+pub fn said_by(event: Event, from: u16, to: u16) -> bool
+    ensures { result ≡ said_by (heard_in event) from to }
 {
-    (h.says) & (h.to == to)
+    matches!(event, Event::Says(sender, receiver, _) if sender.0 == from && receiver.0 == to)
 }
 
-pub fn said_by(h: Heard, from: u16, to: u16) -> bool
-    ensures { result ≡ said_by h from to }
+// Whether the agent notes something.
+pub fn noted_by(event: Event, from: u16) -> bool
+    ensures { result ≡ noted_by (heard_in event) from }
 {
-    (h.says) & (h.from == from) & (h.to == to)
-}
-
-pub fn noted_by(h: Heard, from: u16) -> bool
-    ensures { result ≡ noted_by h from }
-{
-    (!h.says) & (h.from == from)
-}
-
-fn same_heard(h: Heard, g: Heard) -> bool
-    ensures { result ≡ same_heard h g }
-{
-    ((h.says & g.says) | (!h.says & !g.says))
-        & (h.from == g.from)
-        & (h.to == g.to)
-        & (h.row == g.row)
-}
-
-// Whether some earlier event is what is wanted.
-pub fn happened(file: &[u8], boxes: &[u16; boxes::BOX_ROOM], wanted: Wanted) -> bool
-    ensures { result ≡ found file.now boxes.now wanted }
-{
-    let look = cards::look_for(wanted);
-    let at = boxes::box_for(wanted) as usize;
-    if at < boxes::BOXES {
-        boxes::search(file, boxes, wanted, look, boxes[at])
-    } else {
-        boxes::search_all(file, boxes, wanted, look)
-    }
+    matches!(event, Event::Notes(agent, _) if agent.0 == from)
 }

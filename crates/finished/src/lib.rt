@@ -1,176 +1,110 @@
 // The four Finished over rows: rules 8, 9, 12 and 13.
 #![tactic(auto)]
 
-ghost use Rattle.std.specs.Prelude.{◌≡◌, not, ◌&&◌, eqb};
+ghost use Rattle.std.specs.Prelude.{◌≡◌};
+ghost use Rattle.forms.specs.Kinds.{server_in, prf_of};
 ghost use Rattle.earlier.specs.Boxes.{found};
-ghost use Rattle.finished.specs.Tests.{client_finished, server_finished, client_resume, server_resume};
+ghost use Rattle.earlier.specs.Earlier.{heard_in};
+ghost use Rattle.finished.specs.Tests.{own_finished, secret_of, greeted, client_finished, server_finished, client_resume, server_resume};
 
+use earlier::Wanted;
 use earlier::boxes::BOX_ROOM;
-use earlier::{Heard, Wanted};
 use forms::Sealed;
-use forms::leaves::Three;
+use trace::{Event, Role};
 
-// The client's Finished, said by A to B.
-fn said_by_client(h: Heard, m: Sealed) -> bool
-    ensures { result ≡ (m.is && not m.server && eqb m.a h.from && eqb m.b h.to) }
+// The Finished of that role, said by its own side: the client's by A to B, the server's by B to A.
+#[tactic(auto, using(forms::proofs::Keyed::unsealed))]
+fn own_finished(file: &[u8], event: Event, role: Role) -> Option<Sealed>
+    ensures { result ≡ own_finished file.now (heard_in event) (server_in role) }
 {
-    (m.is) & (!m.server) & (m.a == h.from) & (m.b == h.to)
+    let Event::Says(from, to, row) = event else {
+        return None;
+    };
+    if !forms::under_key(file, row.0, role) {
+        return None;
+    }
+    let m = forms::finished(file, row.0)?;
+    let by_its_side = match m.role {
+        Role::Client => m.a == from.0 && m.b == to.0,
+        Role::Server => m.b == from.0 && m.a == to.0,
+    };
+    let own = m.role == role && by_its_side;
+    own.then_some(m)
 }
 
-// The server's Finished, said by B to A.
-fn said_by_server(h: Heard, m: Sealed) -> bool
-    ensures { result ≡ (m.is && m.server && eqb m.b h.from && eqb m.a h.to) }
+// The secret of a Finished whose M is the PRF of it and the same Na and Nb.
+fn secret_of(file: &[u8], m: Sealed) -> Option<u16>
+    ensures { result ≡ secret_of (prf_of file.now m.m) m.na m.nb }
 {
-    (m.is) & (m.server) & (m.b == h.from) & (m.a == h.to)
+    let p = forms::leaves::prf_of(file, m.m)?;
+    let same = p.na == m.na && p.nb == m.nb;
+    same.then_some(p.secret)
 }
 
-// A Finished whose M is p, the PRF of a secret and the same Na and Nb.
-fn with_prf(is: bool, m: Sealed, p: Three) -> bool
-    ensures { result ≡ (is && p.is && eqb p.second m.na && eqb p.third m.nb) }
+// Whether its side had the hello and the reply of a Finished: A said CH and was told SH, B was told CH and said SH.
+fn greeted(file: &[u8], boxes: &[u16; BOX_ROOM], m: Sealed) -> bool
+    ensures { result ≡ greeted (found file.now boxes.now) m }
 {
-    is & (p.is) & (p.second == m.na) & (p.third == m.nb)
+    match m.role {
+        Role::Client => {
+            earlier::happened(file, boxes, Wanted::HelloBy(m.a, m.b, m.na, m.sid, m.pa))
+                && earlier::happened(file, boxes, Wanted::ReplyTo(m.a, m.nb, m.sid, m.pb))
+        }
+        Role::Server => {
+            earlier::happened(file, boxes, Wanted::HelloTo(m.b, m.a, m.na, m.sid, m.pa))
+                && earlier::happened(file, boxes, Wanted::ReplyBy(m.b, m.a, m.nb, m.sid, m.pb))
+        }
+    }
 }
 
 // Rule 8: ClientFinished.
 #[tactic(auto, unfolding(crate::specs::Tests::client_finished))]
-pub fn client_finished(file: &[u8], boxes: &[u16; BOX_ROOM], h: Heard) -> bool
-    ensures { result ≡ client_finished file.now (found file.now boxes.now) h }
+pub fn client_finished(file: &[u8], boxes: &[u16; BOX_ROOM], event: Event) -> bool
+    ensures { result ≡ client_finished file.now (found file.now boxes.now) (heard_in event) }
 {
-    if h.says {
-        let own = forms::under_key(file, h.row, false);
-        if own {
-            let m = forms::finished(file, h.row);
-            let p = forms::leaves::prf_of(file, m.m);
-            let is = said_by_client(h, m);
-            let fits = with_prf(is, m, p);
-            if fits {
-                let hello = earlier::happened(
-                    file,
-                    boxes,
-                    Wanted::HelloBy(h.from, h.to, m.na, m.sid, m.pa),
-                );
-                if hello {
-                    let reply = earlier::happened(
-                        file,
-                        boxes,
-                        Wanted::ReplyTo(h.from, m.nb, m.sid, m.pb),
-                    );
-                    if reply {
-                        return earlier::happened(
-                            file,
-                            boxes,
-                            Wanted::Secret(h.from, h.to, p.first),
-                        );
-                    }
-                }
-            }
-        }
-    }
-    false
+    let Some(m) = own_finished(file, event, Role::Client) else {
+        return false;
+    };
+    let Some(secret) = secret_of(file, m) else {
+        return false;
+    };
+    greeted(file, boxes, m) && earlier::happened(file, boxes, Wanted::Secret(m.a, m.b, secret))
 }
 
 // Rule 9: ServerFinished.
 #[tactic(auto, unfolding(crate::specs::Tests::server_finished))]
-pub fn server_finished(file: &[u8], boxes: &[u16; BOX_ROOM], h: Heard) -> bool
-    ensures { result ≡ server_finished file.now (found file.now boxes.now) h }
+pub fn server_finished(file: &[u8], boxes: &[u16; BOX_ROOM], event: Event) -> bool
+    ensures { result ≡ server_finished file.now (found file.now boxes.now) (heard_in event) }
 {
-    if h.says {
-        let own = forms::under_key(file, h.row, true);
-        if own {
-            let m = forms::finished(file, h.row);
-            let p = forms::leaves::prf_of(file, m.m);
-            let is = said_by_server(h, m);
-            let fits = with_prf(is, m, p);
-            if fits {
-                let hello = earlier::happened(
-                    file,
-                    boxes,
-                    Wanted::HelloTo(h.from, h.to, m.na, m.sid, m.pa),
-                );
-                if hello {
-                    let reply = earlier::happened(
-                        file,
-                        boxes,
-                        Wanted::ReplyBy(h.from, h.to, m.nb, m.sid, m.pb),
-                    );
-                    if reply {
-                        return earlier::happened(file, boxes, Wanted::Sent(h.from, p.first));
-                    }
-                }
-            }
-        }
-    }
-    false
+    let Some(m) = own_finished(file, event, Role::Server) else {
+        return false;
+    };
+    let Some(secret) = secret_of(file, m) else {
+        return false;
+    };
+    greeted(file, boxes, m) && earlier::happened(file, boxes, Wanted::Sent(m.b, secret))
 }
 
 // Rule 12: ClientResume.
 #[tactic(auto, unfolding(crate::specs::Tests::client_resume))]
-pub fn client_resume(file: &[u8], boxes: &[u16; BOX_ROOM], h: Heard) -> bool
-    ensures { result ≡ client_resume file.now (found file.now boxes.now) h }
+pub fn client_resume(file: &[u8], boxes: &[u16; BOX_ROOM], event: Event) -> bool
+    ensures { result ≡ client_resume file.now (found file.now boxes.now) (heard_in event) }
 {
-    if h.says {
-        let own = forms::under_key(file, h.row, false);
-        if own {
-            let m = forms::finished(file, h.row);
-            let fits = said_by_client(h, m);
-            if fits {
-                let hello = earlier::happened(
-                    file,
-                    boxes,
-                    Wanted::HelloBy(h.from, h.to, m.na, m.sid, m.pa),
-                );
-                if hello {
-                    let reply = earlier::happened(
-                        file,
-                        boxes,
-                        Wanted::ReplyTo(h.from, m.nb, m.sid, m.pb),
-                    );
-                    if reply {
-                        return earlier::happened(
-                            file,
-                            boxes,
-                            Wanted::Session(h.from, m.sid, h.from, h.to, m.m),
-                        );
-                    }
-                }
-            }
-        }
-    }
-    false
+    let Some(m) = own_finished(file, event, Role::Client) else {
+        return false;
+    };
+    greeted(file, boxes, m)
+        && earlier::happened(file, boxes, Wanted::Session(m.a, m.sid, m.a, m.b, m.m))
 }
 
 // Rule 13: ServerResume.
 #[tactic(auto, unfolding(crate::specs::Tests::server_resume))]
-pub fn server_resume(file: &[u8], boxes: &[u16; BOX_ROOM], h: Heard) -> bool
-    ensures { result ≡ server_resume file.now (found file.now boxes.now) h }
+pub fn server_resume(file: &[u8], boxes: &[u16; BOX_ROOM], event: Event) -> bool
+    ensures { result ≡ server_resume file.now (found file.now boxes.now) (heard_in event) }
 {
-    if h.says {
-        let own = forms::under_key(file, h.row, true);
-        if own {
-            let m = forms::finished(file, h.row);
-            let fits = said_by_server(h, m);
-            if fits {
-                let hello = earlier::happened(
-                    file,
-                    boxes,
-                    Wanted::HelloTo(h.from, h.to, m.na, m.sid, m.pa),
-                );
-                if hello {
-                    let reply = earlier::happened(
-                        file,
-                        boxes,
-                        Wanted::ReplyBy(h.from, h.to, m.nb, m.sid, m.pb),
-                    );
-                    if reply {
-                        return earlier::happened(
-                            file,
-                            boxes,
-                            Wanted::Session(h.from, m.sid, h.to, h.from, m.m),
-                        );
-                    }
-                }
-            }
-        }
-    }
-    false
+    let Some(m) = own_finished(file, event, Role::Server) else {
+        return false;
+    };
+    greeted(file, boxes, m)
+        && earlier::happened(file, boxes, Wanted::Session(m.b, m.sid, m.a, m.b, m.m))
 }

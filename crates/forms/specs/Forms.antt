@@ -1,18 +1,8 @@
--- The shapes that the rules name, as the code reads them from rows: a flag, and fields that mean nothing unless it is true.
+-- The shapes that the rules name, read from rows: a flag, and fields that mean nothing unless it is true.
 use Rattle.std.specs.Prelude.{ℕ, Bool, not, ◌&&◌, List, eqb}
 use Rattle.laws.specs.Choose.{choose}
 use Rattle.paper.specs.Message.{Authority}
-use Rattle.forms.specs.declared.leaves.Three.{Three}
-use Rattle.forms.specs.declared.chains.Four.{Four}
-use Rattle.forms.specs.declared.Hello.{Hello}
-use Rattle.forms.specs.declared.Reply.{Reply}
-use Rattle.forms.specs.declared.Kept.{Kept}
-use Rattle.forms.specs.declared.Signed.{Signed}
-use Rattle.forms.specs.declared.Remembered.{Remembered}
-use Rattle.forms.specs.declared.Agreed.{Agreed}
-use Rattle.forms.specs.declared.Sealed.{Sealed}
-use Rattle.forms.specs.declared.Derived.{Derived}
-use Rattle.forms.specs.declared.Verified.{Verified}
+use Rattle.forms.specs.Flagged.{Three, Four, Hello, Reply, Kept, Signed, Remembered, Agreed, Sealed, Derived, Verified}
 use Rattle.forms.specs.Kinds.{agent_of, private_of, hash_of, pair_of, crypt_of, prf_of, session_of, is_number, is_nonce, is_key}
 
 -- Pair X (Pair Y Z).

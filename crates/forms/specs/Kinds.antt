@@ -1,14 +1,11 @@
--- One row by its kind, as the code reads it: a flag, and fields that mean nothing unless it is true.
+-- One row by its kind: a flag, and fields that mean nothing unless it is true.
 use Rattle.std.specs.Prelude.{ℕ, Bool, true, false, List}
 use Rattle.trace.specs.Kinds.{row_at}
 use Rattle.trace.specs.declared.Role.{Role}
 use Rattle.trace.specs.declared.Role.TheVariants.{Client, Server}
 use Rattle.trace.specs.declared.Row.{Row}
 use Rattle.trace.specs.declared.Row.TheVariants.{Agent, Number, Nonce, Prf, PublicKey, PrivateKey, SessionKey, Hash, Crypt, Pair}
-use Rattle.forms.specs.declared.leaves.One.{One}
-use Rattle.forms.specs.declared.leaves.Two.{Two}
-use Rattle.forms.specs.declared.leaves.Three.{Three}
-use Rattle.forms.specs.declared.leaves.Session.{Session}
+use Rattle.forms.specs.Flagged.{One, Two, Three, Session}
 
 abbrev pub server_in : Role → Bool
 server_in Client = false

@@ -1,3 +1,5 @@
+pub mod Flagged
 pub mod Kinds
 pub mod Forms
+pub mod Parts
 pub mod Shapes

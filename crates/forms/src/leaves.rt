@@ -1,238 +1,159 @@
-// One row by its kind: a flag, and fields that mean nothing unless it is true.
+// One row by its kind: its parts, or None if it is of another.
 ghost use Rattle.std.specs.Prelude.{◌≡◌};
 ghost use Rattle.forms.specs.Kinds.{agent_of, public_of, private_of, hash_of, pair_of, crypt_of, prf_of, session_of, is_number, is_nonce, is_plain, is_key};
+ghost use Rattle.forms.specs.Parts.{one, two, crypt, prf, session};
 
-// The kinds of rows; `trace` reads a kind above 9 as a pair too.
-const AGENT: u16 = 0;
-
-const NUMBER: u16 = 1;
-
-const NONCE: u16 = 2;
-
-const PRF: u16 = 3;
-
-const PUBLIC_KEY: u16 = 4;
-
-const PRIVATE_KEY: u16 = 5;
-
-const SESSION_KEY: u16 = 6;
-
-const HASH: u16 = 7;
-
-const CRYPT: u16 = 8;
-
-const PAIR: u16 = 9;
-
-// The role of a client in a session key's row.
-const CLIENT: u16 = 0;
+use trace::{Role, Row, RowNo};
 
 #[derive(Clone, Copy)]
-pub struct One {
-    pub is: bool,
-    pub first: u16,
+pub struct Crypt {
+    pub key: u16,
+    pub body: u16,
 }
 
 #[derive(Clone, Copy)]
-pub struct Two {
-    pub is: bool,
-    pub first: u16,
-    pub second: u16,
-}
-
-#[derive(Clone, Copy)]
-pub struct Three {
-    pub is: bool,
-    pub first: u16,
-    pub second: u16,
-    pub third: u16,
+pub struct Prf {
+    pub secret: u16,
+    pub na: u16,
+    pub nb: u16,
 }
 
 #[derive(Clone, Copy)]
 pub struct Session {
-    pub is: bool,
-    pub server: bool,
-    pub first: u16,
-    pub second: u16,
-    pub third: u16,
+    pub role: Role,
+    pub na: u16,
+    pub nb: u16,
+    pub m: u16,
 }
 
-const NO_ONE: One = One {
-    is: false,
-    first: 0,
-};
-
-const NO_TWO: Two = Two {
-    is: false,
-    first: 0,
-    second: 0,
-};
-
 // An agent's number.
-pub fn agent_of(file: &[u8], r: u16) -> One
-    ensures { result ≡ agent_of file.now r }
+#[tactic(auto, unfolding(crate::specs::Kinds::agent_of))]
+pub fn agent_of(file: &[u8], r: u16) -> Option<u16>
+    ensures { result ≡ one (agent_of file.now r) }
 {
-    let f = trace::rows::fields_at(file, r);
-    if f.kind == AGENT {
-        One {
-            is: true,
-            first: f.first,
-        }
-    } else {
-        NO_ONE
+    match trace::row_at(file, RowNo(r)) {
+        Row::Agent(a) => Some(a.0),
+        _ => None,
     }
 }
 
 // The agent of a public key.
-pub fn public_of(file: &[u8], r: u16) -> One
-    ensures { result ≡ public_of file.now r }
+#[tactic(auto, unfolding(crate::specs::Kinds::public_of))]
+pub fn public_of(file: &[u8], r: u16) -> Option<u16>
+    ensures { result ≡ one (public_of file.now r) }
 {
-    let f = trace::rows::fields_at(file, r);
-    if f.kind == PUBLIC_KEY {
-        One {
-            is: true,
-            first: f.first,
-        }
-    } else {
-        NO_ONE
+    match trace::row_at(file, RowNo(r)) {
+        Row::PublicKey(a) => Some(a.0),
+        _ => None,
     }
 }
 
 // The agent of a private key.
-pub fn private_of(file: &[u8], r: u16) -> One
-    ensures { result ≡ private_of file.now r }
+#[tactic(auto, unfolding(crate::specs::Kinds::private_of))]
+pub fn private_of(file: &[u8], r: u16) -> Option<u16>
+    ensures { result ≡ one (private_of file.now r) }
 {
-    let f = trace::rows::fields_at(file, r);
-    if f.kind == PRIVATE_KEY {
-        One {
-            is: true,
-            first: f.first,
-        }
-    } else {
-        NO_ONE
+    match trace::row_at(file, RowNo(r)) {
+        Row::PrivateKey(a) => Some(a.0),
+        _ => None,
     }
 }
 
 // The row that is hashed.
-pub fn hash_of(file: &[u8], r: u16) -> One
-    ensures { result ≡ hash_of file.now r }
+#[tactic(auto, unfolding(crate::specs::Kinds::hash_of))]
+pub fn hash_of(file: &[u8], r: u16) -> Option<u16>
+    ensures { result ≡ one (hash_of file.now r) }
 {
-    let f = trace::rows::fields_at(file, r);
-    if f.kind == HASH {
-        One {
-            is: true,
-            first: f.first,
-        }
-    } else {
-        NO_ONE
+    match trace::row_at(file, RowNo(r)) {
+        Row::Hash(x) => Some(x.0),
+        _ => None,
     }
 }
 
 // Both sides of a pair.
-pub fn pair_of(file: &[u8], r: u16) -> Two
-    ensures { result ≡ pair_of file.now r }
+#[tactic(auto, unfolding(crate::specs::Kinds::pair_of))]
+pub fn pair_of(file: &[u8], r: u16) -> Option<(u16, u16)>
+    ensures { result ≡ two (pair_of file.now r) }
 {
-    let f = trace::rows::fields_at(file, r);
-    if f.kind < PAIR {
-        NO_TWO
-    } else {
-        Two {
-            is: true,
-            first: f.first,
-            second: f.second,
-        }
+    match trace::row_at(file, RowNo(r)) {
+        Row::Pair(x, y) => Some((x.0, y.0)),
+        _ => None,
     }
 }
 
-// The key and the body.
-pub fn crypt_of(file: &[u8], r: u16) -> Two
-    ensures { result ≡ crypt_of file.now r }
+#[tactic(auto, unfolding(crate::specs::Kinds::crypt_of))]
+pub fn crypt_of(file: &[u8], r: u16) -> Option<Crypt>
+    ensures { result ≡ crypt (crypt_of file.now r) }
 {
-    let f = trace::rows::fields_at(file, r);
-    if f.kind == CRYPT {
-        Two {
-            is: true,
-            first: f.first,
-            second: f.second,
-        }
-    } else {
-        NO_TWO
+    match trace::row_at(file, RowNo(r)) {
+        Row::Crypt(key, body) => Some(Crypt {
+            key: key.0,
+            body: body.0,
+        }),
+        _ => None,
     }
 }
 
-// S, Na and Nb.
-pub fn prf_of(file: &[u8], r: u16) -> Three
-    ensures { result ≡ prf_of file.now r }
+#[tactic(auto, unfolding(crate::specs::Kinds::prf_of))]
+pub fn prf_of(file: &[u8], r: u16) -> Option<Prf>
+    ensures { result ≡ prf (prf_of file.now r) }
 {
-    let f = trace::rows::fields_at(file, r);
-    if f.kind == PRF {
-        Three {
-            is: true,
-            first: f.first,
-            second: f.second,
-            third: f.third,
-        }
-    } else {
-        Three {
-            is: false,
-            first: 0,
-            second: 0,
-            third: 0,
-        }
+    match trace::row_at(file, RowNo(r)) {
+        Row::Prf(secret, na, nb) => Some(Prf {
+            secret: secret.0,
+            na: na.0,
+            nb: nb.0,
+        }),
+        _ => None,
     }
 }
 
-// Whose it is; Na, Nb and M.
-pub fn session_of(file: &[u8], r: u16) -> Session
-    ensures { result ≡ session_of file.now r }
+#[tactic(auto, unfolding(crate::specs::Kinds::session_of))]
+pub fn session_of(file: &[u8], r: u16) -> Option<Session>
+    ensures { result ≡ session (session_of file.now r) }
 {
-    let f = trace::rows::fields_at(file, r);
-    if f.kind == SESSION_KEY {
-        Session {
-            is: true,
-            server: f.role != CLIENT,
-            first: f.first,
-            second: f.second,
-            third: f.third,
-        }
-    } else {
-        Session {
-            is: false,
-            server: false,
-            first: 0,
-            second: 0,
-            third: 0,
-        }
+    match trace::row_at(file, RowNo(r)) {
+        Row::SessionKey(role, na, nb, m) => Some(Session {
+            role,
+            na: na.0,
+            nb: nb.0,
+            m: m.0,
+        }),
+        _ => None,
     }
 }
 
 // A number, which anyone can guess.
+#[tactic(auto, unfolding(crate::specs::Kinds::is_number))]
 pub fn is_number(file: &[u8], r: u16) -> bool
     ensures { result ≡ is_number file.now r }
 {
-    let f = trace::rows::fields_at(file, r);
-    f.kind == NUMBER
+    matches!(trace::row_at(file, RowNo(r)), Row::Number(_))
 }
 
 // Plain, or of the pseudo-random function.
+#[tactic(auto, unfolding(crate::specs::Kinds::is_nonce))]
 pub fn is_nonce(file: &[u8], r: u16) -> bool
     ensures { result ≡ is_nonce file.now r }
 {
-    let f = trace::rows::fields_at(file, r);
-    (f.kind == NONCE) | (f.kind == PRF)
+    matches!(trace::row_at(file, RowNo(r)), Row::Nonce(_) | Row::Prf(..))
 }
 
 // A plain nonce.
+#[tactic(auto, unfolding(crate::specs::Kinds::is_plain))]
 pub fn is_plain(file: &[u8], r: u16) -> bool
     ensures { result ≡ is_plain file.now r }
 {
-    let f = trace::rows::fields_at(file, r);
-    f.kind == NONCE
+    matches!(trace::row_at(file, RowNo(r)), Row::Nonce(_))
 }
 
 // Public, private, or of a session.
+#[tactic(auto, unfolding(crate::specs::Kinds::is_key))]
 pub fn is_key(file: &[u8], r: u16) -> bool
     ensures { result ≡ is_key file.now r }
 {
-    let f = trace::rows::fields_at(file, r);
-    (f.kind == PUBLIC_KEY) | (f.kind == PRIVATE_KEY) | (f.kind == SESSION_KEY)
+    matches!(
+        trace::row_at(file, RowNo(r)),
+        Row::PublicKey(_) | Row::PrivateKey(_) | Row::SessionKey(..)
+    )
 }

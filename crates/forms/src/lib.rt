@@ -1,20 +1,21 @@
-// The shapes of messages that the rules name, read from rows: a flag, and fields that mean nothing
-// unless it is true.
+// The shapes of messages that the rules name, read from rows: their parts, or None.
 #![tactic(auto)]
 
 pub mod chains;
 pub mod leaves;
 
-ghost use Rattle.std.specs.Prelude.{◌≡◌, not};
+ghost use Rattle.std.specs.Prelude.{◌≡◌};
+ghost use Rattle.forms.specs.Kinds.{server_in};
 ghost use Rattle.forms.specs.Forms.{hello_of, reply_of, kept_of, signed_of, remembered_of, agreement_of, sealed_of, under_key, derived_of, verified_of};
-ghost use Rattle.laws.specs.Choose.{choose};
+ghost use Rattle.forms.specs.Parts.{hello, reply, kept, signed, remembered, agreed, sealed, derived, verified};
+
+use trace::Role;
 
 // Document 01: agent 1 signs certificates.
 const AUTHORITY: u16 = 1;
 
 #[derive(Clone, Copy)]
 pub struct Hello {
-    pub is: bool,
     pub agent: u16,
     pub na: u16,
     pub sid: u16,
@@ -23,7 +24,6 @@ pub struct Hello {
 
 #[derive(Clone, Copy)]
 pub struct Reply {
-    pub is: bool,
     pub nb: u16,
     pub sid: u16,
     pub pb: u16,
@@ -31,21 +31,18 @@ pub struct Reply {
 
 #[derive(Clone, Copy)]
 pub struct Kept {
-    pub is: bool,
     pub agent: u16,
     pub secret: u16,
 }
 
 #[derive(Clone, Copy)]
 pub struct Signed {
-    pub is: bool,
     pub agent: u16,
     pub key: u16,
 }
 
 #[derive(Clone, Copy)]
 pub struct Remembered {
-    pub is: bool,
     pub sid: u16,
     pub a: u16,
     pub b: u16,
@@ -54,7 +51,6 @@ pub struct Remembered {
 
 #[derive(Clone, Copy)]
 pub struct Agreed {
-    pub is: bool,
     pub sid: u16,
     pub m: u16,
     pub na: u16,
@@ -67,8 +63,7 @@ pub struct Agreed {
 
 #[derive(Clone, Copy)]
 pub struct Sealed {
-    pub is: bool,
-    pub server: bool,
+    pub role: Role,
     pub hash: u16,
     pub sid: u16,
     pub m: u16,
@@ -82,7 +77,6 @@ pub struct Sealed {
 
 #[derive(Clone, Copy)]
 pub struct Derived {
-    pub is: bool,
     pub m: u16,
     pub na: u16,
     pub nb: u16,
@@ -90,7 +84,6 @@ pub struct Derived {
 
 #[derive(Clone, Copy)]
 pub struct Verified {
-    pub is: bool,
     pub signer: u16,
     pub nb: u16,
     pub agent: u16,
@@ -98,127 +91,107 @@ pub struct Verified {
 }
 
 // {Agent A, Na, SID, Pa}: the agent by its number, and else rows.
-pub fn client_hello(file: &[u8], r: u16) -> Hello
-    ensures { result ≡ hello_of file.now r }
+#[tactic(auto, unfolding(crate::specs::Forms::hello_of))]
+pub fn client_hello(file: &[u8], r: u16) -> Option<Hello>
+    ensures { result ≡ hello (hello_of file.now r) }
 {
-    let f = chains::four_of(file, r);
-    let a = leaves::agent_of(file, f.first);
-    let na = leaves::is_nonce(file, f.second);
-    let sid = leaves::is_number(file, f.third);
-    let pa = leaves::is_number(file, f.fourth);
-    Hello {
-        is: f.is & a.is & na & sid & pa,
-        agent: a.first,
-        na: f.second,
-        sid: f.third,
-        pa: f.fourth,
-    }
+    let (agent, na, sid, pa) = chains::four_of(file, r)?;
+    let agent = leaves::agent_of(file, agent)?;
+    let fits = leaves::is_nonce(file, na)
+        && leaves::is_number(file, sid)
+        && leaves::is_number(file, pa);
+    fits.then_some(Hello { agent, na, sid, pa })
 }
 
 // {Nb, SID, Pb}, by rows.
-pub fn server_hello(file: &[u8], r: u16) -> Reply
-    ensures { result ≡ reply_of file.now r }
+#[tactic(auto, unfolding(crate::specs::Forms::reply_of))]
+pub fn server_hello(file: &[u8], r: u16) -> Option<Reply>
+    ensures { result ≡ reply (reply_of file.now r) }
 {
-    let t = chains::three_of(file, r);
-    let nb = leaves::is_nonce(file, t.first);
-    let sid = leaves::is_number(file, t.second);
-    let pb = leaves::is_number(file, t.third);
-    Reply {
-        is: t.is & nb & sid & pb,
-        nb: t.first,
-        sid: t.second,
-        pb: t.third,
-    }
+    let (nb, sid, pb) = chains::three_of(file, r)?;
+    let fits = leaves::is_nonce(file, nb)
+        && leaves::is_number(file, sid)
+        && leaves::is_number(file, pb);
+    fits.then_some(Reply { nb, sid, pb })
 }
 
 // {Agent B, PMS}: the agent by its number, the secret by its row.
-pub fn secret_note(file: &[u8], r: u16) -> Kept
-    ensures { result ≡ kept_of file.now r }
+#[tactic(auto, unfolding(crate::specs::Forms::kept_of))]
+pub fn secret_note(file: &[u8], r: u16) -> Option<Kept>
+    ensures { result ≡ kept (kept_of file.now r) }
 {
-    let p = leaves::pair_of(file, r);
-    let a = leaves::agent_of(file, p.first);
-    let n = leaves::is_nonce(file, p.second);
-    Kept {
-        is: p.is & a.is & n,
-        agent: a.first,
-        secret: p.second,
-    }
+    let (agent, secret) = leaves::pair_of(file, r)?;
+    let agent = leaves::agent_of(file, agent)?;
+    let fits = leaves::is_nonce(file, secret);
+    fits.then_some(Kept { agent, secret })
 }
 
 // {Agent B, K} under the authority's private key: the agent by its number, the key by its row.
-pub fn certificate(file: &[u8], r: u16) -> Signed
-    ensures { result ≡ signed_of file.now r }
+#[tactic(auto, unfolding(crate::specs::Forms::signed_of))]
+pub fn certificate(file: &[u8], r: u16) -> Option<Signed>
+    ensures { result ≡ signed (signed_of file.now r) }
 {
-    let c = leaves::crypt_of(file, r);
-    let k = leaves::private_of(file, c.first);
-    let p = leaves::pair_of(file, c.second);
-    let a = leaves::agent_of(file, p.first);
-    let n = leaves::is_key(file, p.second);
-    Signed {
-        is: c.is & k.is & (k.first == AUTHORITY) & p.is & a.is & n,
-        agent: a.first,
-        key: p.second,
-    }
+    let c = leaves::crypt_of(file, r)?;
+    let signer = leaves::private_of(file, c.key)?;
+    let (agent, key) = leaves::pair_of(file, c.body)?;
+    let agent = leaves::agent_of(file, agent)?;
+    let fits = signer == AUTHORITY && leaves::is_key(file, key);
+    fits.then_some(Signed { agent, key })
 }
 
 // {SID, Agent A, Agent B, M}: the agents by their numbers, and else rows.
-pub fn session_note(file: &[u8], r: u16) -> Remembered
-    ensures { result ≡ remembered_of file.now r }
+#[tactic(auto, unfolding(crate::specs::Forms::remembered_of))]
+pub fn session_note(file: &[u8], r: u16) -> Option<Remembered>
+    ensures { result ≡ remembered (remembered_of file.now r) }
 {
-    let f = chains::four_of(file, r);
-    let sid = leaves::is_number(file, f.first);
-    let a = leaves::agent_of(file, f.second);
-    let b = leaves::agent_of(file, f.third);
-    let m = leaves::is_nonce(file, f.fourth);
-    Remembered {
-        is: f.is & sid & a.is & b.is & m,
-        sid: f.first,
-        a: a.first,
-        b: b.first,
-        m: f.fourth,
-    }
+    let (sid, a, b, m) = chains::four_of(file, r)?;
+    let a = leaves::agent_of(file, a)?;
+    let b = leaves::agent_of(file, b)?;
+    let fits = leaves::is_number(file, sid) && leaves::is_nonce(file, m);
+    fits.then_some(Remembered { sid, a, b, m })
 }
 
 // Hash {SID, M, Na, Pa, Agent A, Nb, Pb, Agent B}: the agents by their numbers, and else rows.
-pub fn agreement(file: &[u8], r: u16) -> Agreed
-    ensures { result ≡ agreement_of file.now r }
+#[tactic(auto, unfolding(crate::specs::Forms::agreement_of))]
+pub fn agreement(file: &[u8], r: u16) -> Option<Agreed>
+    ensures { result ≡ agreed (agreement_of file.now r) }
 {
-    let h = leaves::hash_of(file, r);
-    let f = chains::four_of(file, h.first);
-    let p = leaves::pair_of(file, f.fourth);
-    let g = chains::four_of(file, p.second);
-    let sid = leaves::is_number(file, f.first);
-    let m = leaves::is_nonce(file, f.second);
-    let na = leaves::is_nonce(file, f.third);
-    let pa = leaves::is_number(file, p.first);
-    let a = leaves::agent_of(file, g.first);
-    let nb = leaves::is_nonce(file, g.second);
-    let pb = leaves::is_number(file, g.third);
-    let b = leaves::agent_of(file, g.fourth);
-    Agreed {
-        is: h.is & f.is & p.is & g.is & sid & m & na & pa & a.is & nb & pb & b.is,
-        sid: f.first,
-        m: f.second,
-        na: f.third,
-        pa: p.first,
-        a: a.first,
-        nb: g.second,
-        pb: g.third,
-        b: b.first,
-    }
+    let h = leaves::hash_of(file, r)?;
+    let (sid, m, na, rest) = chains::four_of(file, h)?;
+    let (pa, rest) = leaves::pair_of(file, rest)?;
+    let (a, nb, pb, b) = chains::four_of(file, rest)?;
+    let a = leaves::agent_of(file, a)?;
+    let b = leaves::agent_of(file, b)?;
+    let fits = leaves::is_number(file, sid)
+        && leaves::is_nonce(file, m)
+        && leaves::is_nonce(file, na)
+        && leaves::is_number(file, pa)
+        && leaves::is_nonce(file, nb)
+        && leaves::is_number(file, pb);
+    fits.then_some(Agreed {
+        sid,
+        m,
+        na,
+        pa,
+        a,
+        nb,
+        pb,
+        b,
+    })
 }
 
 // That hash under a session key of the same Na, Nb and M; `hash` is its row.
-pub fn finished(file: &[u8], r: u16) -> Sealed
-    ensures { result ≡ sealed_of file.now r }
+#[tactic(auto, unfolding(crate::specs::Forms::sealed_of))]
+pub fn finished(file: &[u8], r: u16) -> Option<Sealed>
+    ensures { result ≡ sealed (sealed_of file.now r) }
 {
-    let c = leaves::crypt_of(file, r);
-    let s = leaves::session_of(file, c.first);
-    let g = agreement(file, c.second);
-    Sealed {
-        is: c.is & s.is & g.is & (s.first == g.na) & (s.second == g.nb) & (s.third == g.m),
-        server: s.server,
-        hash: c.second,
+    let c = leaves::crypt_of(file, r)?;
+    let s = leaves::session_of(file, c.key)?;
+    let g = agreement(file, c.body)?;
+    let same = s.na == g.na && s.nb == g.nb && s.m == g.m;
+    same.then_some(Sealed {
+        role: s.role,
+        hash: c.body,
         sid: g.sid,
         m: g.m,
         na: g.na,
@@ -227,62 +200,53 @@ pub fn finished(file: &[u8], r: u16) -> Sealed
         nb: g.nb,
         pb: g.pb,
         b: g.b,
-    }
+    })
 }
 
-// The role that is asked for.
-pub fn on_side(server: bool, is: bool) -> bool
-    ensures { result ≡ choose server is (not is) }
+// Whether a row is a Crypt under a session key of that role, which every Finished is.
+pub fn under_key(file: &[u8], r: u16, role: Role) -> bool
+    ensures { result ≡ under_key file.now r (server_in role) }
 {
-    if server { is } else { !is }
-}
-
-// Whether a row is a Crypt under a session key of that side, which every Finished is.
-pub fn under_key(file: &[u8], r: u16, server: bool) -> bool
-    ensures { result ≡ under_key file.now r server }
-{
-    let c = leaves::crypt_of(file, r);
-    let s = leaves::session_of(file, c.first);
-    let side = on_side(server, s.server);
-    (c.is) & (s.is) & side
+    let Some(c) = leaves::crypt_of(file, r) else {
+        return false;
+    };
+    let Some(s) = leaves::session_of(file, c.key) else {
+        return false;
+    };
+    s.role == role
 }
 
 // {PRF(M, Na, Nb), a session key of the same Na, Nb and M}, of either role.
-pub fn spy_keys(file: &[u8], r: u16) -> Derived
-    ensures { result ≡ derived_of file.now r }
+#[tactic(auto, unfolding(crate::specs::Forms::derived_of))]
+pub fn spy_keys(file: &[u8], r: u16) -> Option<Derived>
+    ensures { result ≡ derived (derived_of file.now r) }
 {
-    let p = leaves::pair_of(file, r);
-    let f = leaves::prf_of(file, p.first);
-    let s = leaves::session_of(file, p.second);
-    Derived {
-        is: p.is
-            & f.is
-            & s.is
-            & (f.first == s.third)
-            & (f.second == s.first)
-            & (f.third == s.second),
-        m: f.first,
-        na: f.second,
-        nb: f.third,
-    }
+    let (f, s) = leaves::pair_of(file, r)?;
+    let f = leaves::prf_of(file, f)?;
+    let s = leaves::session_of(file, s)?;
+    let same = f.secret == s.m && f.na == s.na && f.nb == s.nb;
+    same.then_some(Derived {
+        m: f.secret,
+        na: f.na,
+        nb: f.nb,
+    })
 }
 
 // Hash {Nb, Agent B, PMS} under a private key: signer and agent by their numbers, and else rows.
-pub fn cert_verify(file: &[u8], r: u16) -> Verified
-    ensures { result ≡ verified_of file.now r }
+#[tactic(auto, unfolding(crate::specs::Forms::verified_of))]
+pub fn cert_verify(file: &[u8], r: u16) -> Option<Verified>
+    ensures { result ≡ verified (verified_of file.now r) }
 {
-    let c = leaves::crypt_of(file, r);
-    let k = leaves::private_of(file, c.first);
-    let h = leaves::hash_of(file, c.second);
-    let t = chains::three_of(file, h.first);
-    let nb = leaves::is_nonce(file, t.first);
-    let a = leaves::agent_of(file, t.second);
-    let n = leaves::is_nonce(file, t.third);
-    Verified {
-        is: c.is & k.is & h.is & t.is & nb & a.is & n,
-        signer: k.first,
-        nb: t.first,
-        agent: a.first,
-        secret: t.third,
-    }
+    let c = leaves::crypt_of(file, r)?;
+    let signer = leaves::private_of(file, c.key)?;
+    let h = leaves::hash_of(file, c.body)?;
+    let (nb, agent, secret) = chains::three_of(file, h)?;
+    let agent = leaves::agent_of(file, agent)?;
+    let fits = leaves::is_nonce(file, nb) && leaves::is_nonce(file, secret);
+    fits.then_some(Verified {
+        signer,
+        nb,
+        agent,
+        secret,
+    })
 }

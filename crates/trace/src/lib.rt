@@ -18,13 +18,13 @@ ghost use Rattle.trace.specs.Kinds.{row_at};
 ghost use Rattle.trace.specs.Spans.{event_span, fault_of, within};
 
 // Numbers of rows, events and agents are kept apart, and so are the values of Numbers and Nonces.
-#[derive(Clone, Copy)]
+#[derive(Clone, Copy, PartialEq, Eq, Debug)]
 pub struct RowNo(pub u16);
 
 #[derive(Clone, Copy)]
 pub struct EventNo(pub u16);
 
-#[derive(Clone, Copy)]
+#[derive(Clone, Copy, PartialEq, Eq, Debug)]
 pub struct AgentNo(pub u16);
 
 #[derive(Clone, Copy)]
@@ -33,7 +33,7 @@ pub struct NumberValue(pub u16);
 #[derive(Clone, Copy)]
 pub struct NonceValue(pub u16);
 
-#[derive(Clone, Copy)]
+#[derive(Clone, Copy, PartialEq, Eq, Debug)]
 pub enum Role {
     Client,
     Server,
@@ -54,7 +54,7 @@ pub enum Row {
     Pair(RowNo, RowNo),
 }
 
-#[derive(Clone, Copy)]
+#[derive(Clone, Copy, PartialEq, Eq, Debug)]
 pub enum Event {
     Says(AgentNo, AgentNo, RowNo),
     Notes(AgentNo, RowNo),

@@ -1,7 +1,0 @@
--- `earlier::cards::ask_two` meets its contract: each part is what `only` ensures.
--- Assumes nothing.
-use mathlib.Core.Path.{refl}
-use Rattle.earlier.proofs.cards.ask_two.Goals as goal
-
-pub returns : goal.returns
-returns c = rw (c.only.ensures, c.only-2.ensures) refl
