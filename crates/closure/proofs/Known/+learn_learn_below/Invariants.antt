@@ -1,7 +1,7 @@
 -- The proof of the cycle of calls {learn, learn_below}. The measure is the row: a call of `learn_below` keeps it, and its call of
 -- `learn` is at a lower one. Assumes nothing.
 use Prim.Native.Nat.{◌+◌, ◌*◌}
-use Rattle.closure.proofs.+learn_learn_below.Given as goal
+use Rattle.closure.proofs.Known.+learn_learn_below.Given as goal
 
 abbrev pub decreases-learn : goal.decreases-learn
 decreases-learn l = 2 * l.row + 1
