@@ -21,7 +21,7 @@ use Rattle.spy.specs.Made.{made, makes, write_marks}
 use Rattle.closure.specs.Closure.{State, state_of, row_marked, sides_of, below, both_sides, learn_with, learn_row, reopens, reopen_row, up_rows, down_rows, pass_rows, settle, see_row, see_event}
 use Rattle.rules.specs.Tests.{can_make}
 use Rattle.rules.specs.Making.{Kept}
-use Rattle.rules.proofs.Branches.{and}
+use Rattle.std.specs.Cmp.Derive.{both_true}
 use Rattle.rules.proofs.Making.{swept, swept_here, swept_other, far_not_made}
 
 -- a store of a mark loses none
@@ -141,10 +141,10 @@ module _ (file known known' : List ℕ) (kept : Kept known known') where
     makes_more (Hash x) e = more x.0 e
     makes_more (Crypt k x) e =
         let b = both (row_marked known k.0) (made ms x.0) e in
-        and (kept k.0 b.0) (more x.0 b.1)
+        both_true (kept k.0 b.0) (more x.0 b.1)
     makes_more (Pair x y) e =
         let b = both (made ms x.0) (made ms y.0) e in
-        and (more x.0 b.0) (more y.0 b.1)
+        both_true (more x.0 b.0) (more y.0 b.1)
 
   either : (a b a' b' : Bool) → (a ≡ true → a' ≡ true) → (b ≡ true → b' ≡ true) → choose a true b ≡ true → choose a' true b' ≡ true
   either true b a' b' f g e = rw (f refl) refl
