@@ -19,7 +19,8 @@ use Rattle.forms.specs.Forms.{sealed_of}
 use Rattle.closure.specs.Closure.{row_marked, mark_row, zeros}
 use Rattle.closure.proofs.Marks.{mark_same, mark_other, mark_room, none_marked}
 use Rattle.forms.proofs.Keyed.{hash_row}
-use Rattle.earlier.specs.declared.Heard.{Heard}
+use Rattle.earlier.specs.declared.boxes.Boxes.{Boxes}
+use Rattle.earlier.specs.Heard.{Heard}
 use Rattle.earlier.specs.Earlier.{heard_at, said_to, said_by}
 use Rattle.earlier.specs.Boxes.{latest_to, next, chain_from, some}
 use Rattle.earlier.specs.Kept.{seal_mark, seal_at, Boxed}
@@ -91,17 +92,17 @@ module _ (file : List ℕ) (server : Bool) (to : ℕ) where
       let f = sealed_of file h.row in
       hash_last (said_to h to) f.is (eqb f.hash hash) (choose server f.server (not f.server))
 
-  pub mark_more : (boxes : List ℕ) (link : ℕ) (marks : List ℕ) → 0 < link →
+  pub mark_more : (boxes : Boxes) (link : ℕ) (marks : List ℕ) → 0 < link →
       mark_all file boxes server to (chain_from boxes link) marks ≡
       mark_all file boxes server to (chain_from boxes (next boxes link)) (mark_event file boxes server to (link - 1) marks)
   unfolding mark_all
   mark_more boxes link marks l = ap (λ (js : List ℕ). mark_all file boxes server to js marks) (chain_step boxes link l)
 
-  pub mark_end : (boxes : List ℕ) (link : ℕ) (marks : List ℕ) → link ≡ 0 → mark_all file boxes server to (chain_from boxes link) marks ≡ marks
+  pub mark_end : (boxes : Boxes) (link : ℕ) (marks : List ℕ) → link ≡ 0 → mark_all file boxes server to (chain_from boxes link) marks ≡ marks
   unfolding mark_all
   mark_end boxes link marks z = ap (λ (js : List ℕ). mark_all file boxes server to js marks) (chain_end boxes link z)
 
-  module _ (boxes : List ℕ) (e : ℕ) (X : Boxed file boxes e) where
+  module _ (boxes : Boxes) (e : ℕ) (X : Boxed file boxes e) where
     marked_more : (marks : List ℕ) → length marks ≡ row_limit → (j x : ℕ) → j < e → x < row_limit →
         row_marked (mark_event file boxes server to j marks) x ≡ (row_marked marks x || told_finished file (heard_at file j) server to x)
     marked_more marks room j x m l =
@@ -155,7 +156,7 @@ reorder said own told true h = let p = h refl in rw (p.0, p.1) (and_true told)
 reorder said own told false h = and_false (said && own && told)
 
 -- the two passes find what two searches would
-module _ (file boxes : List ℕ) (e : ℕ) (X : Boxed file boxes e) where
+module _ (file : List ℕ) (boxes : Boxes) (e : ℕ) (X : Boxed file boxes e) where
   module _ (by : Side) (s : Session) where
     abbrev server : Bool
     server = server_in by.role

@@ -7,7 +7,7 @@ use Rattle.trace.specs.declared.Role.{Role}
 use Rattle.trace.specs.declared.Role.TheVariants.{Client, Server}
 use Rattle.forms.specs.Kinds.{server_in, prf_of}
 use Rattle.forms.specs.Forms.{remembered_of, sealed_of}
-use Rattle.earlier.specs.declared.Heard.{Heard}
+use Rattle.earlier.specs.Heard.{Heard}
 use Rattle.earlier.specs.declared.Wanted.{Wanted}
 use Rattle.earlier.specs.declared.Wanted.TheVariants.{Secret, Sent}
 use Rattle.earlier.specs.Earlier.{heard_at, said_by, said_to}

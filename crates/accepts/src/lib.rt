@@ -3,44 +3,34 @@
 
 ghost use Rattle.std.specs.Prelude.{◌≡◌, not};
 ghost use Rattle.laws.specs.First.{any};
-ghost use Rattle.closure.specs.Closure.{mark_row};
 ghost use Rattle.forms.specs.Kinds.{server_in};
 ghost use Rattle.earlier.specs.Earlier.{heard_in, heard_at};
 ghost use Rattle.earlier.specs.Boxes.{latest_to, chain_from, some, found};
 ghost use Rattle.accepts.specs.Tests.{said_finished, told_finished, client_accepts, server_accepts, remembers};
 ghost use Rattle.accepts.specs.Hashes.{mark_event, mark_all, answered_in, agreed_in, both_in};
 
-use earlier::Wanted;
-use earlier::boxes::BOX_ROOM;
+use earlier::boxes::{events_to, sealed};
+use earlier::{Boxes, Wanted};
 use trace::limits::{ROW_LIMIT, ROWS};
 use trace::{Event, EventNo, Role};
 
 // What two sides agree on, as one of them noted it: the agents by their numbers, and else rows.
 #[derive(Clone, Copy)]
-struct Session {
-    sid: u16,
-    a: u16,
-    b: u16,
-    m: u16,
-    na: u16,
-    nb: u16,
+pub struct Session {
+    pub sid: u16,
+    pub a: u16,
+    pub b: u16,
+    pub m: u16,
+    pub na: u16,
+    pub nb: u16,
 }
 
 // Whose Finished is looked for, and who says it to whom.
 #[derive(Clone, Copy)]
-struct Side {
-    role: Role,
-    from: u16,
-    to: u16,
-}
-
-fn is_server(role: Role) -> bool
-    ensures { result ≡ server_in role }
-{
-    match role {
-        Role::Client => false,
-        Role::Server => true,
-    }
+pub struct Side {
+    pub role: Role,
+    pub from: u16,
+    pub to: u16,
 }
 
 fn other(role: Role) -> Role
@@ -59,8 +49,10 @@ fn told_finished(file: &[u8], event: Event, role: Role, to: u16, hash: u16) -> b
     let Event::Says(_, receiver, row) = event else {
         return false;
     };
-    let f = forms::finished(file, row.0);
-    receiver.0 == to && f.is && f.hash == hash && f.server == is_server(role)
+    let Some(f) = forms::finished(file, row.0) else {
+        return false;
+    };
+    receiver.0 == to && f.hash == hash && f.role == role
 }
 
 // Whether an event is the Finished of one side of that session.
@@ -70,31 +62,24 @@ fn said_finished(file: &[u8], event: Event, by: Side, s: Session) -> bool
     let Event::Says(from, to, row) = event else {
         return false;
     };
-    let f = forms::finished(file, row.0);
+    let Some(f) = forms::finished(file, row.0) else {
+        return false;
+    };
     from.0 == by.from
         && to.0 == by.to
-        && f.is
         && f.sid == s.sid
         && f.a == s.a
         && f.b == s.b
         && f.m == s.m
         && f.na == s.na
         && f.nb == s.nb
-        && f.server == is_server(by.role)
-}
-
-fn mark_row(marks: &mut [u8; ROW_LIMIT], r: u16)
-    ensures { marks.new ≡ mark_row marks.old r }
-{
-    if r < ROWS {
-        marks[usize::from(r)] = 1;
-    }
+        && f.role == by.role
 }
 
 // The hash of the Finished of that role is marked, if event j tells one to this agent.
 fn mark_event(
     file: &[u8],
-    boxes: &[u16; BOX_ROOM],
+    boxes: &Boxes,
     marks: &mut [u8; ROW_LIMIT],
     j: u16,
     role: Role,
@@ -103,22 +88,21 @@ fn mark_event(
     ensures { marks.new ≡ mark_event file.now boxes.now (server_in role) to j marks.old }
 {
     let event = trace::event_at(file, EventNo(j));
-    let seal = earlier::boxes::sealed(boxes, is_server(role), j);
+    let seal = sealed(boxes, role, j);
     let said = matches!(event, Event::Says(_, receiver, _) if receiver.0 == to);
     if said && 0 < seal {
-        mark_row(marks, seal - 1);
+        closure::put(marks, usize::from(seal - 1), 1);
     }
 }
 
 // The hashes of the Finished that an agent was told are marked.
-fn mark_told(file: &[u8], boxes: &[u16; BOX_ROOM], marks: &mut [u8; ROW_LIMIT], role: Role, to: u16)
+#[tactic(auto, unfolding(crate::specs::Hashes::mark_all))]
+fn mark_told(file: &[u8], boxes: &Boxes, marks: &mut [u8; ROW_LIMIT], role: Role, to: u16)
     ensures { marks.new ≡ mark_all file.now boxes.now (server_in role) to
         (chain_from boxes.now (latest_to boxes.now to)) marks.old }
 {
-    let mut link = earlier::boxes::latest_to(boxes, to);
-    while 0 < link {
-        mark_event(file, boxes, marks, link - 1, role, to);
-        link = earlier::boxes::next(boxes, link);
+    for j in events_to(boxes, to) {
+        mark_event(file, boxes, marks, j, role, to);
     }
 }
 
@@ -141,9 +125,10 @@ fn answered(file: &[u8], marks: &[u8; ROW_LIMIT], e: u16, role: Role, to: u16, h
 
 // Whether event i is the Finished of one side, and the other side's was told. It is read whole only
 // where its hash was told.
+#[tactic(auto, unfolding(forms::specs::Forms::sealed_of))]
 fn agreed_at(
     file: &[u8],
-    boxes: &[u16; BOX_ROOM],
+    boxes: &Boxes,
     marks: &[u8; ROW_LIMIT],
     e: u16,
     i: u16,
@@ -156,18 +141,20 @@ fn agreed_at(
     let Event::Says(from, to, row) = event else {
         return false;
     };
-    let seal = earlier::boxes::sealed(boxes, is_server(by.role), i);
+    let seal = sealed(boxes, by.role, i);
     if from.0 != by.from || to.0 != by.to || seal == 0 {
         return false;
     }
-    let c = forms::leaves::crypt_of(file, row.0);
-    let told = answered(file, marks, e, other(by.role), by.from, c.second);
+    let Some(c) = forms::leaves::crypt_of(file, row.0) else {
+        return false;
+    };
+    let told = answered(file, marks, e, other(by.role), by.from, c.body);
     told && said_finished(file, event, by, s)
 }
 
 fn agreed_any(
     file: &[u8],
-    boxes: &[u16; BOX_ROOM],
+    boxes: &Boxes,
     marks: &[u8; ROW_LIMIT],
     e: u16,
     by: Side,
@@ -176,21 +163,13 @@ fn agreed_any(
     ensures { result ≡ some (agreed_in file.now boxes.now marks.now e by s)
         (chain_from boxes.now (latest_to boxes.now by.to)) }
 {
-    let mut link = earlier::boxes::latest_to(boxes, by.to);
-    while 0 < link {
-        let found = agreed_at(file, boxes, marks, e, link - 1, by, s);
-        if found {
-            return true;
-        }
-        link = earlier::boxes::next(boxes, link);
-    }
-    false
+    events_to(boxes, by.to).any(|i| agreed_at(file, boxes, marks, e, i, by, s))
 }
 
 // One side said its Finished to the other, and was told the other's, with the same hash. Two passes:
 // the hashes that were told are marked first.
 #[tactic(auto, unfolding(crate::specs::Hashes::both_in))]
-fn both_finished(file: &[u8], boxes: &[u16; BOX_ROOM], e: u16, by: Side, s: Session) -> bool
+fn both_finished(file: &[u8], boxes: &Boxes, e: u16, by: Side, s: Session) -> bool
     ensures { result ≡ both_in file.now boxes.now e by s }
 {
     let mut marks = [0u8; ROW_LIMIT];
@@ -202,24 +181,22 @@ fn both_finished(file: &[u8], boxes: &[u16; BOX_ROOM], e: u16, by: Side, s: Sess
 fn session_note(file: &[u8], row: u16) -> Option<(Session, u16)>
     ensures { result ≡ remembers file.now row }
 {
-    let n = forms::session_note(file, row);
-    let p = forms::leaves::prf_of(file, n.m);
-    (n.is && p.is).then_some((
-        Session {
-            sid: n.sid,
-            a: n.a,
-            b: n.b,
-            m: n.m,
-            na: p.second,
-            nb: p.third,
-        },
-        p.first,
-    ))
+    let n = forms::session_note(file, row)?;
+    let p = forms::leaves::prf_of(file, n.m)?;
+    let session = Session {
+        sid: n.sid,
+        a: n.a,
+        b: n.b,
+        m: n.m,
+        na: p.na,
+        nb: p.nb,
+    };
+    Some((session, p.secret))
 }
 
 // Rule 10: ClientAccepts.
 #[tactic(auto, unfolding(crate::specs::Tests::client_accepts))]
-pub fn client_accepts(file: &[u8], boxes: &[u16; BOX_ROOM], e: u16, event: Event) -> bool
+pub fn client_accepts(file: &[u8], boxes: &Boxes, e: u16, event: Event) -> bool
     ensures { result ≡ client_accepts file.now (found file.now boxes.now)
         (both_in file.now boxes.now e) (heard_in event) }
 {
@@ -241,7 +218,7 @@ pub fn client_accepts(file: &[u8], boxes: &[u16; BOX_ROOM], e: u16, event: Event
 
 // Rule 11: ServerAccepts.
 #[tactic(auto, unfolding(crate::specs::Tests::server_accepts))]
-pub fn server_accepts(file: &[u8], boxes: &[u16; BOX_ROOM], e: u16, event: Event) -> bool
+pub fn server_accepts(file: &[u8], boxes: &Boxes, e: u16, event: Event) -> bool
     ensures { result ≡ server_accepts file.now (found file.now boxes.now)
         (both_in file.now boxes.now e) (heard_in event) }
 {
