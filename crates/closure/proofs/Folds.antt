@@ -8,9 +8,11 @@ use native.Mathlib.Omega.{arith}
 use native.Mathlib.Numerals.{add-one}
 use Rattle.trace.specs.File.{row_limit, agent_limit, rows_of, compromised_in}
 use Rattle.laws.specs.Choose.{choose}
+use Rattle.trace.specs.Events.{event_at}
 use Rattle.trace.specs.Kinds.{row_at}
 use Rattle.laws.proofs.Both.{or_true, or_none}
-use Rattle.closure.specs.Closure.{State, state_of, know, reopen_row, up_rows, down_rows, pass_rows, settle, start_keys, key_known, mark_row, start_rows}
+use Rattle.closure.specs.declared.Known.{Known}
+use Rattle.closure.specs.Closure.{see_event, known_after, State, state_of, know, reopen_row, up_rows, down_rows, pass_rows, settle, start_keys, key_known, mark_row, start_rows}
 
 module _ (file : List ℕ) where
   pub up_none : (rows keys : List ℕ) → state_of rows keys false ≡ up_rows file 0 rows keys
@@ -120,3 +122,8 @@ module _ (file : List ℕ) where
       settle file (row_limit - p) (state_of rs ks f) ≡ t → state_of rs' ks' g ≡ pass_rows file (rows_of file) rs ks →
       settle file (row_limit - (p + 1)) (state_of rs' ks' g) ≡ t
   see_more p rs ks rs' ks' {f} {g} l z q r = rw (← q, z, r) (sym (settle_pass p rs ks l))
+
+  pub known_more : (e : ℕ) (known known' : Known) → known ≡ known_after file e → known' ≡ see_event file known.rows known.keys (event_at file e) →
+      known' ≡ known_after file (e + 1)
+  unfolding known_after
+  known_more e known known' i j = rw (add-one e, ← i) j

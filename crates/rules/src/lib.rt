@@ -11,8 +11,7 @@ ghost use Rattle.rules.specs.Tests as tests;
 ghost use Rattle.rules.specs.Making.{told, try_fake};
 
 use closure::row_marked;
-use earlier::Wanted;
-use earlier::boxes::BOX_ROOM;
+use earlier::{Boxes, Wanted};
 use trace::Event;
 use trace::limits::ROW_LIMIT;
 
@@ -67,12 +66,7 @@ pub fn client_hello(file: &[u8], used: &[u8; ROW_LIMIT], event: Event) -> bool
 
 // Rule 4: SH with a fresh nonce, to the agent of a CH.
 #[tactic(auto, unfolding(crate::specs::Tests::server_hello))]
-pub fn server_hello(
-    file: &[u8],
-    boxes: &[u16; BOX_ROOM],
-    used: &[u8; ROW_LIMIT],
-    event: Event,
-) -> bool
+pub fn server_hello(file: &[u8], boxes: &Boxes, used: &[u8; ROW_LIMIT], event: Event) -> bool
     ensures { result ≡ tests.server_hello file.now used.now (found file.now boxes.now) (heard_in event) }
 {
     let Event::Says(from, to, row) = event else {
@@ -103,7 +97,7 @@ pub fn certificate(file: &[u8], event: Event) -> bool
 #[tactic(auto, unfolding(crate::specs::Tests::key_exchange))]
 pub fn key_exchange(
     file: &[u8],
-    boxes: &[u16; BOX_ROOM],
+    boxes: &Boxes,
     used: &[u8; ROW_LIMIT],
     note: Event,
     said: Event,
@@ -127,7 +121,7 @@ pub fn key_exchange(
 
 // Rule 7: the nonce of an SH and a secret of one's own, signed.
 #[tactic(auto, unfolding(crate::specs::Tests::cert_verify))]
-pub fn cert_verify(file: &[u8], boxes: &[u16; BOX_ROOM], event: Event) -> bool
+pub fn cert_verify(file: &[u8], boxes: &Boxes, event: Event) -> bool
     ensures { result ≡ tests.cert_verify file.now (found file.now boxes.now) (heard_in event) }
 {
     let Event::Says(from, to, row) = event else {
@@ -144,7 +138,7 @@ pub fn cert_verify(file: &[u8], boxes: &[u16; BOX_ROOM], event: Event) -> bool
 
 // Rule 14: a session key that one spoke under, lost to the spy.
 #[tactic(auto, unfolding(crate::specs::Tests::oops))]
-pub fn oops(file: &[u8], boxes: &[u16; BOX_ROOM], event: Event) -> bool
+pub fn oops(file: &[u8], boxes: &Boxes, event: Event) -> bool
     ensures { result ≡ tests.oops file.now (found file.now boxes.now) (heard_in event) }
 {
     let Event::Says(from, to, row) = event else {
