@@ -92,16 +92,6 @@ module _ (file : List ℕ) (server : Bool) (to : ℕ) where
       let f = sealed_of file h.row in
       hash_last (said_to h to) f.is (eqb f.hash hash) (choose server f.server (not f.server))
 
-  pub mark_more : (boxes : Boxes) (link : ℕ) (marks : List ℕ) → 0 < link →
-      mark_all file boxes server to (chain_from boxes link) marks ≡
-      mark_all file boxes server to (chain_from boxes (next boxes link)) (mark_event file boxes server to (link - 1) marks)
-  unfolding mark_all
-  mark_more boxes link marks l = ap (λ (js : List ℕ). mark_all file boxes server to js marks) (chain_step boxes link l)
-
-  pub mark_end : (boxes : Boxes) (link : ℕ) (marks : List ℕ) → link ≡ 0 → mark_all file boxes server to (chain_from boxes link) marks ≡ marks
-  unfolding mark_all
-  mark_end boxes link marks z = ap (λ (js : List ℕ). mark_all file boxes server to js marks) (chain_end boxes link z)
-
   module _ (boxes : Boxes) (e : ℕ) (X : Boxed file boxes e) where
     marked_more : (marks : List ℕ) → length marks ≡ row_limit → (j x : ℕ) → j < e → x < row_limit →
         row_marked (mark_event file boxes server to j marks) x ≡ (row_marked marks x || told_finished file (heard_at file j) server to x)
@@ -116,7 +106,7 @@ module _ (file : List ℕ) (server : Bool) (to : ℕ) where
 
     all_marked : {js : List ℕ} → Below e js → (marks : List ℕ) → length marks ≡ row_limit → (x : ℕ) → x < row_limit →
         row_marked (mark_all file boxes server to js marks) x ≡ (row_marked marks x || some (λ j. told_finished file (heard_at file j) server to x) js)
-    unfolding mark_all some
+    unfolding mark_all
     all_marked none marks room x l = sym (or_none (row_marked marks x))
     all_marked (more {j} {js} m b) marks room x l =
         let room' = mark_length marks room (said_to (heard_at file j) to && ltb 0 (seal_at boxes server j)) (seal_at boxes server j - 1) in

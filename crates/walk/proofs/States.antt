@@ -16,8 +16,9 @@ use Rattle.closure.specs.Closure.{see_event, known_after, zeros}
 use Rattle.used.specs.Marking.{use_event, used_after}
 use Rattle.earlier.specs.Heard.{Heard}
 use Rattle.earlier.specs.Earlier.{heard_in, heard_at, past}
-use Rattle.earlier.specs.Boxes.{box_room, found}
-use Rattle.earlier.specs.Kept.{kept_in}
+use Rattle.earlier.specs.declared.boxes.Boxes.{Boxes}
+use Rattle.earlier.specs.Boxes.{found}
+use Rattle.earlier.specs.Kept.{none_kept, kept_in}
 use Rattle.earlier.proofs.Keeping.{none_boxed, keep_boxed}
 use Rattle.earlier.proofs.Finding.{found_past}
 use Rattle.accepts.specs.Hashes.{both_in}
@@ -30,21 +31,21 @@ use Rattle.walk.specs.declared.State.{State}
 use Rattle.walk.specs.Lowest.{rule_or_none, lowest_said, lowest_noted, lowest_rule, rule_of, exchange_of}
 use Rattle.walk.specs.Pace.{Before}
 
-pub before_first : (file : List ℕ) {k : Known} → k ≡ known_after file 0 →
-    Before file 0 (record { used = zeros row_limit; known = k; boxes = zeros box_room; made = zeros row_limit })
+pub before_first : (file : List ℕ) {k : Known} {bs : Boxes} → k ≡ known_after file 0 → bs ≡ none_kept →
+    Before file 0 (record { used = zeros row_limit; known = k; boxes = bs; made = zeros row_limit })
 unfolding used_after
-before_first file {k} q = record { uses = refl; sees = q; kept = none_boxed file; makes = none_sound file k.rows }
+before_first file {k} {bs} q n = record { uses = refl; sees = q; kept = rw n (none_boxed file); makes = none_sound file k.rows }
 
 module _ (file : List ℕ) (i : ℕ) (s : State) (b : Before file i s) where
   -- what an event teaches makes nothing forgotten
   rows_kept : {k : Known} → k ≡ see_event file s.known.rows s.known.keys (event_at file i) → Kept s.known.rows k.rows
   rows_kept q = subst (λ (k : Known). Kept s.known.rows k.rows) (sym q) (see_kept file s.known.rows s.known.keys (event_at file i))
 
-  pub before_more : {us bs : List ℕ} {k : Known} → i < event_limit → us ≡ use_event file s.used (event_at file i) →
+  pub before_more : {us : List ℕ} {k : Known} {bs : Boxes} → i < event_limit → us ≡ use_event file s.used (event_at file i) →
       k ≡ see_event file s.known.rows s.known.keys (event_at file i) → bs ≡ kept_in file s.boxes i →
       Before file (suc i) (record { used = us; known = k; boxes = bs; made = s.made })
   unfolding used_after known_after
-  before_more {us} {bs} {k} l u v w =
+  before_more {us} {k} {bs} l u v w =
       record {
         uses = rw (← b.uses) u;
         sees = rw (← b.sees) v;
@@ -79,10 +80,10 @@ module _ (file : List ℕ) (i : ℕ) (s : State) (b : Before file i s) where
   unfolding lowest_rule
   by_says {e} q t = rw t at (rule_is q)
 
-  pub said_is : {e : Event} → e ≡ event_at file i → (heard_in e).says ≡ true →
-      rule_or_none (lowest_said file s.used s.known.rows (found file s.boxes) (heard_in e)) ≡ rule_or_none (rule_of file i)
-  said_is q t = ap rule_or_none (by_says q t)
+  pub said_is : {e d : Event} {k : Option ℕ} → e ≡ event_at file i → e ≡ d → (heard_in d).says ≡ true →
+      k ≡ rule_or_none (lowest_said file s.used s.known.rows (found file s.boxes) (heard_in d)) → k ≡ rule_or_none (rule_of file i)
+  said_is q w t v = v ∙ ap rule_or_none (by_says (sym w ∙ q) t)
 
-  pub noted_is : {e : Event} → e ≡ event_at file i → (heard_in e).says ≡ false →
-      rule_or_none (lowest_noted file s.known.rows (found file s.boxes) (both_in file s.boxes i) (heard_in e)) ≡ rule_or_none (rule_of file i)
-  noted_is q t = ap rule_or_none (by_says q t)
+  pub noted_is : {e d : Event} {k : Option ℕ} → e ≡ event_at file i → e ≡ d → (heard_in d).says ≡ false →
+      k ≡ rule_or_none (lowest_noted file s.known.rows (found file s.boxes) (both_in file s.boxes i) (heard_in d)) → k ≡ rule_or_none (rule_of file i)
+  noted_is q w t v = v ∙ ap rule_or_none (by_says (sym w ∙ q) t)

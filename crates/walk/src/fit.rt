@@ -85,10 +85,9 @@ impl State {
         if rules::fake(file, &self.known.rows, &mut self.made, event) {
             return Some(1);
         }
-        if forms::leaves::crypt_of(file, row.0).is_some() {
-            self.lowest_crypt(file, event)
-        } else {
-            self.lowest_plain(file, event)
+        match forms::leaves::crypt_of(file, row.0) {
+            Some(_) => self.lowest_crypt(file, event),
+            None => self.lowest_plain(file, event),
         }
     }
 

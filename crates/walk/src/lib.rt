@@ -10,7 +10,7 @@ ghost use Rattle.walk.specs.Pace.{pace, paced, taken_or_none, Before};
 ghost use Rattle.walk.specs.Walk.{cleared, walkable, walk_file};
 
 use closure::{Known, put};
-use earlier::boxes::BOX_ROOM;
+use earlier::Boxes;
 use trace::EventNo;
 use trace::limits::{EVENTS, ROW_LIMIT};
 
@@ -22,7 +22,7 @@ const SIX: u8 = 6;
 struct State {
     used: [u8; ROW_LIMIT],
     known: Known,
-    boxes: [u16; BOX_ROOM],
+    boxes: Boxes,
     made: [u8; ROW_LIMIT],
 }
 
@@ -33,7 +33,7 @@ impl State {
         State {
             used: [0; ROW_LIMIT],
             known: Known::start(file),
-            boxes: [0; BOX_ROOM],
+            boxes: Boxes::new(),
             made: [0; ROW_LIMIT],
         }
     }

@@ -14,9 +14,9 @@ returns-then-fake c =
       before = q.1;
     }
 
-pub returns-then-is_some : goal.returns-then-is_some
+pub returns-in-Some : goal.returns-in-Some
 unfolding lowest_said
-returns-then-is_some c =
+returns-in-Some c =
     let a = c.args in
     let q = before_tried a.file.now a.e a.self.now c.requires.before _ c.fake.ensures in
     record {
@@ -24,9 +24,9 @@ returns-then-is_some c =
       before = q.1;
     }
 
-pub returns-else-is_some : goal.returns-else-is_some
+pub returns-in-None : goal.returns-in-None
 unfolding lowest_said
-returns-else-is_some c =
+returns-in-None c =
     let a = c.args in
     let q = before_tried a.file.now a.e a.self.now c.requires.before _ c.fake.ensures in record {
       value = ?;

@@ -4,4 +4,4 @@ use Rattle.walk.proofs.States.{before_first}
 use Rattle.walk.proofs.State.start.Goals as goal
 
 pub returns : goal.returns
-returns c = before_first c.args.file.now c.start.ensures
+returns c = before_first c.args.file.now c.start.ensures c.new.ensures
