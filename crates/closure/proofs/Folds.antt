@@ -1,20 +1,18 @@
--- The loops' definitions, one turn more, what is left of settling, and the rows that a pass may leave out.
+-- The loops' definitions, one turn more, and what is left of settling.
 -- Assumes nothing.
-use Prim.Native.Nat.{ℕ, zero, suc, ◌+◌, ◌-◌, ◌<◌, ◌≤◌}
+use Prim.Native.Nat.{ℕ, zero, suc, ◌+◌, ◌-◌, ◌<◌}
 use mathlib.Core.Bool.{Bool, true, false, ◌||◌}
 use mathlib.Core.List.{List}
-use mathlib.Core.Logic.{◌⊎◌, inl, inr}
-use mathlib.Core.Path.{◌≡◌, refl, sym, ◌∙◌, ap}
+use mathlib.Core.Path.{◌≡◌, refl, sym, ◌∙◌}
 use native.Mathlib.Omega.{arith}
 use native.Mathlib.Numerals.{add-one}
-use borrow.Author.Tests.{le-ltb}
 use Rattle.trace.specs.File.{row_limit, agent_limit, rows_of, compromised_in}
 use Rattle.laws.specs.Choose.{choose}
 use Rattle.trace.specs.Events.{event_at}
 use Rattle.trace.specs.Kinds.{row_at}
 use Rattle.laws.proofs.Both.{or_true, or_none}
-use Rattle.laws.proofs.First.{bool_cases}
-use Rattle.closure.specs.Closure.{key_room, State, state_of, know, reopens, reopen_row, up_rows, down_rows, pass_rows, Reaches, settle, start_keys, key_known, mark_row, start_rows, see_event, zeros, known_after}
+use Rattle.closure.specs.declared.Known.{Known}
+use Rattle.closure.specs.Closure.{see_event, known_after, State, state_of, know, reopen_row, up_rows, down_rows, pass_rows, settle, start_keys, key_known, mark_row, start_rows}
 
 module _ (file : List ℕ) where
   pub up_none : (rows keys : List ℕ) → state_of rows keys false ≡ up_rows file 0 rows keys
@@ -73,46 +71,6 @@ module _ (file : List ℕ) where
       let e : (up_rows file n rows keys).fresh ≡ false = rw (← u) z in
       rw (pass_over n rows keys e, ← z) u
 
-  -- a last row that is no marked Crypt may be left out of a pass
-  module _ (n : ℕ) (none : (rs : List ℕ) → reopens file rs n ≡ false) where
-    up_less : (rs ks : List ℕ) → up_rows file n rs ks ≡ up_rows file (suc n) rs ks
-    unfolding up_rows
-    up_less rs ks =
-        let s = up_rows file n rs ks in
-        rw (none s.rows, reopen_row, or_none s.fresh) refl
-
-    down_less : (rs ks : List ℕ) → down_rows file n rs ks ≡ down_rows file (suc n) rs ks
-    unfolding down_rows
-    down_less rs ks = rw (none rs, reopen_row) refl
-
-    pass_suc : (rs ks : List ℕ) → pass_rows file n rs ks ≡ pass_rows file (suc n) rs ks
-    unfolding pass_rows
-    pass_suc rs ks = go (bool_cases (up_rows file n rs ks).fresh)
-      where
-        go : ((up_rows file n rs ks).fresh ≡ true) ⊎ ((up_rows file n rs ks).fresh ≡ false) → pass_rows file n rs ks ≡ pass_rows file (suc n) rs ks
-        go (inl e) =
-            let s = up_rows file n rs ks in
-            pass_on n rs ks e ∙ down_less s.rows s.keys ∙ rw (up_less rs ks) (sym (pass_on (suc n) rs ks (rw (← up_less rs ks) e)))
-        go (inr e) = pass_over n rs ks e ∙ up_less rs ks ∙ sym (pass_over (suc n) rs ks (rw (← up_less rs ks) e))
-
-  -- a row past the marks is none
-  none_past : (r : ℕ) → row_limit ≤ r → (rs : List ℕ) → reopens file rs r ≡ false
-  none_past r l rs = rw (le-ltb r row_limit l) refl
-
-  pass_past : (k : ℕ) (rs ks : List ℕ) → pass_rows file row_limit rs ks ≡ pass_rows file (row_limit + k) rs ks
-  pass_past zero rs ks = refl
-  pass_past (suc k) rs ks =
-      let q : suc (row_limit + k) ≡ row_limit + suc k = omega arith in
-      pass_past k rs ks ∙ pass_suc (row_limit + k) (none_past (row_limit + k) (omega arith)) rs ks ∙ ap (λ (m : ℕ). pass_rows file m rs ks) q
-
-  pub reaches_all : (n : ℕ) → n ≡ rows_of file → Reaches file n
-  reaches_all n e rs ks = rw e refl
-
-  pub reaches_marks : (n : ℕ) → n ≡ rows_of file → row_limit < n → Reaches file row_limit
-  reaches_marks n e l rs ks =
-      let q : row_limit + (rows_of file - row_limit) ≡ rows_of file = omega (arith, e) in
-      pass_past (rows_of file - row_limit) rs ks ∙ ap (λ (m : ℕ). pass_rows file m rs ks) q
-
   pub keys_more : (a : ℕ) (keys ks ks' : List ℕ) → ks ≡ start_keys file a keys →
       ks' ≡ choose (compromised_in file a) (know ks (agent_limit + a)) ks → ks' ≡ start_keys file (a + 1) keys
   unfolding start_keys
@@ -165,15 +123,7 @@ module _ (file : List ℕ) where
       settle file (row_limit - (p + 1)) (state_of rs' ks' g) ≡ t
   see_more p rs ks rs' ks' {f} {g} l z q r = rw (← q, z, r) (sym (settle_pass p rs ks l))
 
-  abbrev Is : (rs ks : List ℕ) → State → Type 0
-  Is rs ks s = (rs ≡ s.rows) × (ks ≡ s.keys)
-
-  pub known_start : (rs₀ ks₀ rs ks : List ℕ) → rs₀ ≡ zeros row_limit → ks₀ ≡ zeros key_room → ks ≡ start_keys file agent_limit ks₀ →
-      rs ≡ start_rows file (start_keys file agent_limit ks₀) (rows_of file) rs₀ → Is rs ks (known_after file 0)
+  pub known_more : (e : ℕ) (known known' : Known) → known ≡ known_after file e → known' ≡ see_event file known.rows known.keys (event_at file e) →
+      known' ≡ known_after file (e + 1)
   unfolding known_after
-  known_start rs₀ ks₀ rs ks er ek k r = (rw (← er, ← ek) r, rw (← ek) k)
-
-  pub known_more : (e : ℕ) (rs ks rs' ks' : List ℕ) → Is rs ks (known_after file e) →
-      Is rs' ks' (see_event file rs ks (event_at file e)) → Is rs' ks' (known_after file (e + 1))
-  unfolding known_after
-  known_more e rs ks rs' ks' i j = rw (add-one, ← i.0, ← i.1) j
+  known_more e known known' i j = rw (add-one e, ← i) j

@@ -12,16 +12,13 @@ use lib.Dec.{ltb}
 use lib.ListN.{length, set, length-set}
 use borrow.Author.Tests.{ltb-true, lt-ltb, lt-leb}
 use Rattle.trace.specs.File.{row_limit, agent_limit, rows_of}
-use Rattle.trace.specs.Rows.{fields_at, kind_at}
 use Rattle.trace.specs.Kinds.{row_at}
 use Rattle.trace.specs.Promises.{Promised, Keeps, agent, number, nonce, prf, public_key, private_key, session_key, hash, crypt, pair}
 use Rattle.trace.specs.declared.Row.{Row}
 use Rattle.trace.specs.declared.Row.TheVariants.{Agent, Number, Nonce, Prf, PublicKey, PrivateKey, SessionKey, Hash, Crypt, Pair}
 use Rattle.laws.proofs.First.{bool_cases}
 use Rattle.laws.proofs.Both.{or_false, or_false_right}
-use Rattle.closure.specs.Closure.{key_room, State, state_of, row_marked, know_row, opens_row, opens, sides_of, below, both_sides, learn_with, learn_row}
-use Rattle.closure.specs.declared.Sides.{Sides}
-use Rattle.closure.proofs.Fields.{sides_fixed}
+use Rattle.closure.specs.Closure.{key_room, Sides, State, state_of, row_marked, know_row, opens_row, opens, sides_of, below, both_sides, learn_with, learn_row, is_crypt}
 use Rattle.closure.proofs.Marks.{Marked, Known, row_same, row_other, row_keep, know_same, know_row_keep, know_row_room}
 
 -- the key of a key row is known
@@ -73,7 +70,7 @@ module _ (file : List ℕ) (P : Promised file) where
         (x : ℕ) → x < rows_of file → Marked t.rows x → Held t.keys (row_at file x)
     pub same : t.fresh ≡ false → (k : ℕ) → k < rows_of file → opens file t.rows t.keys k ≡ opens file rs ks k
     pub closed : t.fresh ≡ false → (x : ℕ) → x < rows_of file → Closed rs ks x → Closed t.rows t.keys x
-    pub steady : (x : ℕ) → ¬ (kind_at file x ≡ 8) → Closed rs ks x → Closed t.rows t.keys x
+    pub steady : (x : ℕ) → is_crypt (row_at file x) ≡ false → Closed rs ks x → Closed t.rows t.keys x
     pub new : t.fresh ≡ true → (x : ℕ) × (x < row_limit) × (row_marked rs x ≡ false) × Marked t.rows x
 
   pub grew_still : (rs ks : List ℕ) → length rs ≡ row_limit → length ks ≡ key_room → Grew rs ks (state_of rs ks false)
@@ -134,6 +131,19 @@ module _ (file : List ℕ) (P : Promised file) where
   sides_same rs ks rs' ks' same x R l (hash h) = refl
   sides_same rs ks rs' ks' same x R l (crypt {k = k} b h) = rw (same k.0 (omega (arith, b.below)))
   sides_same rs ks rs' ks' same x R l (pair a b) = refl
+
+  -- and of a row that is no Crypt they depend on nothing
+  sides_fixed : (rs ks rs' ks' : List ℕ) (R : Row) (x : ℕ) → is_crypt R ≡ false → sides_of file rs' ks' x R ≡ sides_of file rs ks x R
+  sides_fixed rs ks rs' ks' (Agent a) x n = refl
+  sides_fixed rs ks rs' ks' (Number v) x n = refl
+  sides_fixed rs ks rs' ks' (Nonce v) x n = refl
+  sides_fixed rs ks rs' ks' (Prf s y z) x n = refl
+  sides_fixed rs ks rs' ks' (PublicKey a) x n = refl
+  sides_fixed rs ks rs' ks' (PrivateKey a) x n = refl
+  sides_fixed rs ks rs' ks' (SessionKey o y z m) x n = refl
+  sides_fixed rs ks rs' ks' (Hash y) x n = refl
+  sides_fixed rs ks rs' ks' (Crypt k y) x n = absurd (true≢false n)
+  sides_fixed rs ks rs' ks' (Pair y z) x n = refl
 
   -- marking a row that is no key changes no `opens`
   no_key : (rs ks rs' ks' : List ℕ) (row k : ℕ) (R : Row) → (sides_of file rs ks row R).key ≡ false → opens_row rs' ks' k R ≡ false
@@ -241,10 +251,10 @@ module _ (file : List ℕ) (P : Promised file) where
         (sides_same b.rows b.keys t.rows t.keys (λ k _. same_b e k) x (row_at file x) l (P.keeps x l))
         (g.closed (or_false b.fresh _ e) x l c) (ℕ_discrete x row)
 
-    steady_closed : (x : ℕ) → ¬ (kind_at file x ≡ 8) → Closed rs ks x → Closed t.rows t.keys x
+    steady_closed : (x : ℕ) → is_crypt (row_at file x) ≡ false → Closed rs ks x → Closed t.rows t.keys x
     steady_closed x n c =
-        closed_t x (sides_fixed file rs ks t.rows t.keys (fields_at file x) x n)
-        (sides_fixed file b.rows b.keys t.rows t.keys (fields_at file x) x n) (g.steady x n c) (ℕ_discrete x row)
+        closed_t x (sides_fixed rs ks t.rows t.keys (row_at file x) x n)
+        (sides_fixed b.rows b.keys t.rows t.keys (row_at file x) x n) (g.steady x n c) (ℕ_discrete x row)
 
     grew_mark : Grew rs ks t
     grew_mark =

@@ -1,25 +1,20 @@
 -- Marks after a store: the new one is there, the others stay.
 -- Assumes nothing.
-use Prim.Native.Nat.{ℕ, ◌+◌, ◌<◌, ◌≤◌}
-use mathlib.Core.Bool.{Bool, true, ◌&&◌, true≢false}
+use Prim.Native.Nat.{ℕ, ◌+◌, ◌<◌}
+use mathlib.Core.Bool.{true, true≢false}
 use mathlib.Core.List.{List}
 use mathlib.Core.Path.{◌≡◌, sym, ◌∙◌}
 use native.Mathlib.Omega.{arith}
-use native.Mathlib.Decide.{ℕ_discrete, dec_lt}
+use native.Mathlib.Decide.{ℕ_discrete}
 use lib.Dec.{eqb, ltb}
 use lib.ListN.{length, get_or, set, length-set, replicate, get_or-replicate}
 use lib.Seq.{get_or-set_same, get_or-set_other}
-use borrow.Author.Tests.{lt-ltb, le-ltb, ltb-true}
+use borrow.Author.Tests.{lt-ltb, ltb-true}
 use Rattle.trace.specs.File.{row_limit, agent_limit}
-use Rattle.laws.specs.Choose.{choose}
 use Rattle.laws.proofs.Both.{both}
 use Rattle.trace.specs.declared.Row.{Row}
 use Rattle.trace.specs.declared.Row.TheVariants.{Agent, Number, Nonce, Prf, PublicKey, PrivateKey, SessionKey, Hash, Crypt, Pair}
-use Rattle.closure.specs.Closure.{key_room, row_marked, key_marked, know, know_row, mark_row}
-
--- a mark in an array with room for m
-abbrev pub mark_at : ℕ → List ℕ → ℕ → Bool
-mark_at m l i = ltb i m && eqb (get_or l i 0) 1
+use Rattle.closure.specs.Closure.{key_room, marked, row_marked, key_marked, know, know_row, mark_row}
 
 abbrev pub Marked : List ℕ → ℕ → Type 0
 Marked rs r = row_marked rs r ≡ true
@@ -28,58 +23,27 @@ abbrev pub Known : List ℕ → ℕ → Type 0
 Known ks i = key_marked ks i ≡ true
 
 module _ (m : ℕ) (l : List ℕ) (room : length l ≡ m) where
-  mark_below : (i : ℕ) → mark_at m l i ≡ true → i < m
+  mark_below : (i : ℕ) → marked m l i ≡ true → i < m
   mark_below i e = ltb-true i m (both (ltb i m) (eqb (get_or l i 0) 1) e).0
 
-  set_same : (i : ℕ) → i < m → mark_at m (set l i 1) i ≡ true
+  set_same : (i : ℕ) → i < m → marked m (set l i 1) i ≡ true
   set_same i h = rw (lt-ltb i m h, get_or-set_same l i 1 0 (omega arith))
 
-  set_other : (i j : ℕ) → ¬ (j ≡ i) → mark_at m (set l i 1) j ≡ mark_at m l j
+  set_other : (i j : ℕ) → ¬ (j ≡ i) → marked m (set l i 1) j ≡ marked m l j
   set_other i j n = rw (get_or-set_other l i j 1 0 n)
 
-  set_keep : (i j : ℕ) → mark_at m l j ≡ true → mark_at m (set l i 1) j ≡ true
+  set_keep : (i j : ℕ) → marked m l j ≡ true → marked m (set l i 1) j ≡ true
   set_keep i j e = go (ℕ_discrete j i)
     where
-      go : Dec (j ≡ i) → mark_at m (set l i 1) j ≡ true
+      go : Dec (j ≡ i) → marked m (set l i 1) j ≡ true
       go (yes q) = rw q (set_same i (rw q at (mark_below j e)))
       go (no n) = set_other i j n ∙ e
 
-  -- a store that is left out past the room
-  abbrev put_at : ℕ → List ℕ
-  put_at i = choose (ltb i m) (set l i 1) l
-
-  put_in : (i : ℕ) → i < m → put_at i ≡ set l i 1
-  put_in i h = rw (lt-ltb i m h)
-
-  put_out : (i : ℕ) → m ≤ i → put_at i ≡ l
-  put_out i h = rw (le-ltb i m h)
-
-  put_same : (i : ℕ) → i < m → mark_at m (put_at i) i ≡ true
-  put_same i h = rw (put_in i h) (set_same i h)
-
-  put_other : (i j : ℕ) → ¬ (j ≡ i) → mark_at m (put_at i) j ≡ mark_at m l j
-  put_other i j n = go (dec_lt i m)
-    where
-      go : Dec (i < m) → mark_at m (put_at i) j ≡ mark_at m l j
-      go (yes h) = rw (put_in i h) (set_other i j n)
-      go (no h) = rw (put_out i (omega arith))
-
-  put_keep : (i j : ℕ) → mark_at m l j ≡ true → mark_at m (put_at i) j ≡ true
-  put_keep i j e = go (dec_lt i m)
-    where
-      go : Dec (i < m) → mark_at m (put_at i) j ≡ true
-      go (yes h) = rw (put_in i h) (set_keep i j e)
-      go (no h) = rw (put_out i (omega arith)) e
-
-  put_room : (i : ℕ) → length (put_at i) ≡ m
-  put_room i = go (dec_lt i m)
-    where
-      go : Dec (i < m) → length (put_at i) ≡ m
-      go (yes h) = rw (put_in i h) (length-set l i 1 ∙ room)
-      go (no h) = rw (put_out i (omega arith)) room
+  set_room : (i : ℕ) → length (set l i 1) ≡ m
+  set_room i = length-set l i 1 ∙ room
 
 -- zeros have no mark
-pub none_marked : (m i : ℕ) → ¬ (mark_at m (replicate m 0) i ≡ true)
+pub none_marked : (m i : ℕ) → ¬ (marked m (replicate m 0) i ≡ true)
 none_marked m i e =
     let h = both (ltb i m) (eqb (get_or (replicate m 0) i 0) 1) e in
     true≢false (sym (rw (get_or-replicate {A = ℕ} m i 0 0 (ltb-true i m h.0)) at h.1))
@@ -105,29 +69,29 @@ module _ (rs : List ℕ) (room : length rs ≡ row_limit) where
   row_keep = set_keep row_limit rs room
 
   pub mark_same : (r : ℕ) → r < row_limit → Marked (mark_row rs r) r
-  mark_same = put_same row_limit rs room
+  mark_same = set_same row_limit rs room
 
   pub mark_other : (r x : ℕ) → ¬ (x ≡ r) → row_marked (mark_row rs r) x ≡ row_marked rs x
-  mark_other = put_other row_limit rs room
+  mark_other = set_other row_limit rs room
 
   pub mark_keep : (r x : ℕ) → Marked rs x → Marked (mark_row rs r) x
-  mark_keep = put_keep row_limit rs room
+  mark_keep = set_keep row_limit rs room
 
   pub mark_room : (r : ℕ) → length (mark_row rs r) ≡ row_limit
-  mark_room = put_room row_limit rs room
+  mark_room = set_room row_limit rs room
 
 module _ (ks : List ℕ) (room : length ks ≡ key_room) where
   pub know_same : (i : ℕ) → i < key_room → Known (know ks i) i
-  know_same = put_same key_room ks room
+  know_same = set_same key_room ks room
 
   pub know_other : (i j : ℕ) → ¬ (j ≡ i) → key_marked (know ks i) j ≡ key_marked ks j
-  know_other = put_other key_room ks room
+  know_other = set_other key_room ks room
 
   pub know_keep : (i j : ℕ) → Known ks j → Known (know ks i) j
-  know_keep = put_keep key_room ks room
+  know_keep = set_keep key_room ks room
 
   pub know_room : (i : ℕ) → length (know ks i) ≡ key_room
-  know_room = put_room key_room ks room
+  know_room = set_room key_room ks room
 
   pub know_row_keep : (R : Row) (j : ℕ) → Known ks j → Known (know_row ks R) j
   know_row_keep (Agent a) j e = e

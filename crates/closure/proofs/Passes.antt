@@ -6,16 +6,14 @@ use mathlib.Core.List.{List}
 use mathlib.Core.Logic.{◌⊎◌, inl, inr, ⊎_elim}
 use mathlib.Core.Path.{◌≡◌, refl, sym, ◌∙◌}
 use native.Mathlib.Omega.{arith}
-use native.Mathlib.Decide.{ℕ_discrete}
 use lib.ListN.{length}
 use Rattle.trace.specs.File.{row_limit, rows_of}
 use Rattle.laws.specs.Choose.{choose}
-use Rattle.trace.specs.Rows.{kind_at}
 use Rattle.trace.specs.Kinds.{row_at}
 use Rattle.trace.specs.Promises.{Promised}
 use Rattle.laws.proofs.Both.{refuted, or_false, or_false_right}
 use Rattle.laws.proofs.First.{bool_cases, lt_suc}
-use Rattle.closure.specs.Closure.{key_room, State, state_of, row_marked, both_sides, learn_row, reopens, reopen_row, up_rows, down_rows, pass_rows, settle, see_row}
+use Rattle.closure.specs.Closure.{key_room, State, state_of, row_marked, is_crypt, both_sides, learn_row, reopens, reopen_row, up_rows, down_rows, pass_rows, settle, see_row}
 use Rattle.closure.proofs.Marks.{Marked, Known}
 use Rattle.closure.proofs.Grew.{Held, Grew, grew_still, grew_then, sides_at, Closed, closed_same, learns, both_grew}
 
@@ -67,16 +65,16 @@ module _ (file : List ℕ) (P : Promised file) where
 
   -- what the way up closes: rows that are no Crypts stay closed by `steady`
   abbrev CryptsClosed : ℕ → State → Type 0
-  CryptsClosed n t = t.fresh ≡ false → (x : ℕ) → x < n → kind_at file x ≡ 8 → Closed file P t.rows t.keys x
+  CryptsClosed n t = t.fresh ≡ false → (x : ℕ) → x < n → is_crypt (row_at file x) ≡ true → Closed file P t.rows t.keys x
 
   pub reopen_grew : (rs ks : List ℕ) (r : ℕ) → length rs ≡ row_limit → length ks ≡ key_room → r < rows_of file →
       Grew file P rs ks (reopen_row file rs ks r) ×
-      ((reopen_row file rs ks r).fresh ≡ false → kind_at file r ≡ 8 → Closed file P (reopen_row file rs ks r).rows (reopen_row file rs ks r).keys r)
+      ((reopen_row file rs ks r).fresh ≡ false → is_crypt (row_at file r) ≡ true → Closed file P (reopen_row file rs ks r).rows (reopen_row file rs ks r).keys r)
   reopen_grew rs ks r rr kr l = go (bool_cases (reopens file rs r))
     where
       go : (reopens file rs r ≡ true) ⊎ (reopens file rs r ≡ false) →
           Grew file P rs ks (reopen_row file rs ks r) ×
-          ((reopen_row file rs ks r).fresh ≡ false → kind_at file r ≡ 8 → Closed file P (reopen_row file rs ks r).rows (reopen_row file rs ks r).keys r)
+          ((reopen_row file rs ks r).fresh ≡ false → is_crypt (row_at file r) ≡ true → Closed file P (reopen_row file rs ks r).rows (reopen_row file rs ks r).keys r)
       go (inl o) =
           let b = both_grew file P r (learns file P r) r l (omega arith) rs ks (sides_at file P rs ks r) rr kr in
           rw (o, reopen_row)
@@ -154,14 +152,10 @@ module _ (file : List ℕ) (P : Promised file) where
 
   -- rows that are no Crypts are closed at all times, so that a pass without a new key closes all
   abbrev Steady : List ℕ → List ℕ → Type 0
-  Steady rs ks = (x : ℕ) → x < rows_of file → ¬ (kind_at file x ≡ 8) → Closed file P rs ks x
+  Steady rs ks = (x : ℕ) → x < rows_of file → is_crypt (row_at file x) ≡ false → Closed file P rs ks x
 
   all_closed : (t : State) → Steady t.rows t.keys → CryptsClosed (rows_of file) t → t.fresh ≡ false → AllClosed t.rows t.keys
-  all_closed t st c e x l = go (ℕ_discrete (kind_at file x) 8)
-    where
-      go : Dec (kind_at file x ≡ 8) → Closed file P t.rows t.keys x
-      go (yes q) = c e x l q
-      go (no n) = st x l n
+  all_closed t st c e x l = ⊎_elim (λ q. c e x l q) (λ n. st x l n) (bool_cases (is_crypt (row_at file x)))
 
   settles : (d : ℕ) (rs ks : List ℕ) (s : State) → Grew file P rs ks s → Steady s.rows s.keys →
       (s.fresh ≡ false → AllClosed s.rows s.keys) → (s.fresh ≡ true → unmarked row_limit s.rows < d) →
@@ -189,7 +183,7 @@ module _ (file : List ℕ) (P : Promised file) where
 
   -- a row is seen in a closed state: the state is closed again, and the row is marked
   pub see_settles : (rs ks : List ℕ) (row : ℕ) → length rs ≡ row_limit → length ks ≡ key_room → row < rows_of file → AllClosed rs ks →
-      Settled rs ks (see_row file rs ks row) × Marked (see_row file rs ks row).rows row
+      Settled rs ks (settle file row_limit (learn_row file (suc row) rs ks row)) × Marked (see_row file rs ks row).rows row
   see_settles rs ks row r k l c =
       let s = learn_row file (suc row) rs ks row in
       let g = learns file P (suc row) rs ks row r k l (omega arith) in

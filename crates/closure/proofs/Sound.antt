@@ -13,7 +13,6 @@ use borrow.Author.Tests.{ltb-true, lt-leb}
 use Rattle.paper.specs.Message as paper
 use Rattle.paper.specs.Spy.{Analz, fst, snd, decrypt}
 use Rattle.trace.specs.File.{row_limit, agent_limit, rows_of}
-use Rattle.trace.specs.Rows.{kind_at}
 use Rattle.trace.specs.Kinds.{row_at}
 use Rattle.trace.specs.Meaning.{message}
 use Rattle.trace.specs.Promises.{Promised, Keeps, Unfolds, as_agent, as_number, as_nonce, as_prf, as_public, as_private, as_session, as_hash, as_crypt, as_pair, public_key, private_key, crypt}
@@ -21,8 +20,7 @@ use Rattle.trace.specs.declared.Row.{Row}
 use Rattle.trace.specs.declared.Row.TheVariants.{Crypt}
 use Rattle.laws.proofs.First.{bool_cases}
 use Rattle.laws.proofs.Both.{both}
-use Rattle.closure.specs.Closure.{key_room, State, state_of, row_marked, know, know_row, opens_row, opens, sides_of, below, both_sides, learn_with, learn_row, reopens, reopen_row, up_rows, down_rows, pass_rows, settle, see_row}
-use Rattle.closure.specs.declared.Sides.{Sides}
+use Rattle.closure.specs.Closure.{key_room, Sides, State, state_of, row_marked, know, know_row, opens_row, opens, sides_of, below, both_sides, learn_with, learn_row, is_crypt, reopens, reopen_row, up_rows, down_rows, pass_rows, settle, see_row}
 use Rattle.closure.proofs.Marks.{Marked, Known, row_other, know_other}
 use Rattle.closure.proofs.Grew.{sides_at, learns, below_grew, both_grew}
 use Rattle.closure.proofs.Passes.{reopen_grew, up_grew, pass_grew}
@@ -184,7 +182,7 @@ module _ (file : List ℕ) (P : Promised file) (H : paper.msg → Type 0) where
     where
       go : (reopens file rs r ≡ true) ⊎ (reopens file rs r ≡ false) → Sound (reopen_row file rs ks r).rows (reopen_row file rs ks r).keys
       go (inl m) =
-          let p = sides_sound rs ks s r l (s.rows r l (both (row_marked rs r) (eqb (kind_at file r) 8) m).0) in
+          let p = sides_sound rs ks s r l (s.rows r l (both (row_marked rs r) (is_crypt (row_at file r)) m).0) in
           rw (m, reopen_row) (both_sound r (sounds r) r l (omega arith) rs ks (sides_at file P rs ks r) rr kr s p.0 p.1)
       go (inr u) = rw (u, reopen_row) s
 

@@ -1,13 +1,12 @@
 -- Closing, as the code does it: document 01, "What the spy sees". Marks are 1; public keys stand at 0 to 63, private ones at 64 to 127.
-use Rattle.std.specs.Prelude.{ℕ, zero, suc, ◌+◌, ◌*◌, Bool, true, false, ◌&&◌, ◌||◌, List, ◌≡◌, eqb, ltb, leb, get_or, set, replicate}
+use Rattle.std.specs.Prelude.{ℕ, zero, suc, ◌+◌, ◌*◌, Bool, true, false, ◌&&◌, ◌||◌, List, eqb, ltb, leb, get_or, set, replicate}
 use Rattle.trace.specs.File.{row_limit, agent_limit, rows_of, compromised_in}
 use Rattle.laws.specs.Choose.{choose}
-use Rattle.trace.specs.Rows.{kind_at}
 use Rattle.trace.specs.Events.{event_at}
 use Rattle.trace.specs.Kinds.{row_at}
 use Rattle.trace.specs.declared.Event.{Event}
 use Rattle.trace.specs.declared.Event.TheVariants.{Says, Notes}
-use Rattle.closure.specs.declared.Sides.{Sides}
+use Rattle.closure.specs.declared.Known.{Known}
 use Rattle.trace.specs.declared.Row.{Row}
 use Rattle.trace.specs.declared.Row.TheVariants.{Agent, Number, Nonce, Prf, PublicKey, PrivateKey, SessionKey, Hash, Crypt, Pair}
 
@@ -24,14 +23,19 @@ state_of rows keys fresh = record { rows = rows; keys = keys; fresh = fresh }
 abbrev pub key_room : ℕ
 key_room = 2 * agent_limit
 
+-- a mark where there is room for so many: nothing is marked past them
+abbrev pub marked : (room : ℕ) → List ℕ → ℕ → Bool
+marked room marks i = ltb i room && eqb (get_or marks i 0) 1
+
 abbrev pub row_marked : List ℕ → ℕ → Bool
-row_marked rows r = ltb r row_limit && eqb (get_or rows r 0) 1
+row_marked = marked row_limit
 
 abbrev pub key_marked : List ℕ → ℕ → Bool
-key_marked keys i = ltb i key_room && eqb (get_or keys i 0) 1
+key_marked = marked key_room
 
+-- past the end nothing changes
 abbrev pub know : List ℕ → ℕ → List ℕ
-know keys i = choose (ltb i key_room) (set keys i 1) keys
+know keys i = set keys i 1
 
 -- the inverse of the key in row k is known
 abbrev pub opens_row : (rows keys : List ℕ) → ℕ → Row → Bool
@@ -62,7 +66,12 @@ know_row keys (Hash x) = keys
 know_row keys (Crypt k x) = keys
 know_row keys (Pair x y) = keys
 
--- what a row opens into with the keys that are known: a side that is not below the row is none
+-- what a row opens into with the keys that are known, and whether it is a key: a side that is not below the row is none
+pub record Sides : Type 0 where
+  pub left : ℕ
+  pub right : ℕ
+  pub key : Bool
+
 abbrev pub no_sides : ℕ → Bool → Sides
 no_sides row key = record { left = row; right = row; key = key }
 
@@ -103,9 +112,21 @@ learn_row file (suc d) rows keys row =
           learn_with (λ rs ks x. learn_row file d rs ks x) rows keys row (sides_of file rows keys row (row_at file row)) (row_at file row)
     ]
 
--- a marked Crypt, of kind 8, is opened again, with the keys that are known by now; all else was open when it was marked
+-- a marked Crypt is opened again, with the keys that are known by now; all else was open when it was marked
+abbrev pub is_crypt : Row → Bool
+is_crypt (Agent a) = false
+is_crypt (Number n) = false
+is_crypt (Nonce n) = false
+is_crypt (Prf s x y) = false
+is_crypt (PublicKey a) = false
+is_crypt (PrivateKey a) = false
+is_crypt (SessionKey o x y z) = false
+is_crypt (Hash x) = false
+is_crypt (Crypt k x) = true
+is_crypt (Pair x y) = false
+
 abbrev pub reopens : (file rows : List ℕ) → ℕ → Bool
-reopens file rows r = row_marked rows r && eqb (kind_at file r) 8
+reopens file rows r = row_marked rows r && is_crypt (row_at file r)
 
 abbrev pub reopen_row : List ℕ → (rows keys : List ℕ) → ℕ → State
 reopen_row file rows keys r =
@@ -132,23 +153,22 @@ pass_rows file n rows keys =
     let s = up_rows file n rows keys in
     elim s.fresh [ true ↦ down_rows file n s.rows s.keys | false ↦ s ]
 
--- a pass over n rows does what one over all does
-abbrev pub Reaches : List ℕ → ℕ → Type 0
-Reaches file n = (rows keys : List ℕ) → pass_rows file n rows keys ≡ pass_rows file (rows_of file) rows keys
-
 -- passes over all rows, as long as a key became known in the last one
 unfoldable pub settle : List ℕ → ℕ → State → State
 settle file zero s = s
 settle file (suc d) s = elim s.fresh [ true ↦ settle file d (pass_rows file (rows_of file) s.rows s.keys) | false ↦ s ]
 
 -- a row is seen: it is learnt, and the state is closed again
-abbrev pub see_row : List ℕ → (rows keys : List ℕ) → ℕ → State
-see_row file rows keys row = settle file row_limit (learn_row file (suc row) rows keys row)
+abbrev pub known_in : State → Known
+known_in s = record { rows = s.rows; keys = s.keys }
 
-abbrev pub see_event : List ℕ → (rows keys : List ℕ) → Event → State
+abbrev pub see_row : List ℕ → (rows keys : List ℕ) → ℕ → Known
+see_row file rows keys row = known_in (settle file row_limit (learn_row file (suc row) rows keys row))
+
+abbrev pub see_event : List ℕ → (rows keys : List ℕ) → Event → Known
 see_event file rows keys (Says a b r) = see_row file rows keys r.0
 see_event file rows keys (Notes a r) =
-    elim (compromised_in file a.0) [ true ↦ see_row file rows keys r.0 | false ↦ state_of rows keys false ]
+    elim (compromised_in file a.0) [ true ↦ see_row file rows keys r.0 | false ↦ record { rows = rows; keys = keys } ]
 
 -- the starting knowledge: keys first, then the rows that hold them
 unfoldable pub start_keys : List ℕ → ℕ → List ℕ → List ℕ
@@ -168,7 +188,7 @@ key_known keys (Crypt k x) = false
 key_known keys (Pair x y) = false
 
 abbrev pub mark_row : List ℕ → ℕ → List ℕ
-mark_row rows r = choose (ltb r row_limit) (set rows r 1) rows
+mark_row rows r = set rows r 1
 
 unfoldable pub start_rows : List ℕ → List ℕ → ℕ → List ℕ → List ℕ
 start_rows file keys zero rows = rows
@@ -179,8 +199,8 @@ abbrev pub zeros : ℕ → List ℕ
 zeros n = replicate n 0
 
 -- what is known after the first n events
-unfoldable pub known_after : List ℕ → ℕ → State
+unfoldable pub known_after : List ℕ → ℕ → Known
 known_after file zero =
     let keys = start_keys file agent_limit (zeros key_room) in
-    state_of (start_rows file keys (rows_of file) (zeros row_limit)) keys false
+    record { rows = start_rows file keys (rows_of file) (zeros row_limit); keys = keys }
 known_after file (suc n) = let s = known_after file n in see_event file s.rows s.keys (event_at file n)

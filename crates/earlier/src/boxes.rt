@@ -30,6 +30,7 @@ const FAR: u16 = 65535;
 
 // The heads of the boxes; of each event the link to the one before it in its box, the hash of its Finished as a
 // client's and as a server's, and its card; and the slots.
+#[derive(Drop)]
 pub struct Boxes {
     heads: [u16; BOXES],
     links: [u16; EVENT_LIMIT],

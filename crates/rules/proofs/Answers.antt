@@ -1,14 +1,13 @@
 -- The key exchange and the certificate's proof: each test passes exactly when the paper's rule puts the event there.
 -- Assumes nothing.
 use Prim.Native.Nat.{ℕ, suc, ◌<◌}
-use mathlib.Core.Bool.{true, not, ◌&&◌}
+use mathlib.Core.Bool.{true}
 use mathlib.Core.List.{List}
 use mathlib.Core.Path.{◌≡◌, refl, sym, ◌∙◌, ap}
-use lib.Dec.{eqb}
 use borrow.Author.Tests.{eqb-true, eq-eqb}
 use Rattle.paper.specs.Message as paper
 use Rattle.paper.specs.Event as event
-use Rattle.paper.specs.Rules.{Step, CertVerify, Exchange, ClientKeyExch}
+use Rattle.paper.specs.Rules.{CertVerify, Exchange, ClientKeyExch}
 use Rattle.trace.specs.File.{events_of}
 use Rattle.trace.specs.Events.{event_at}
 use Rattle.trace.specs.Meaning.{message, event_meant, beginning, bad}
@@ -18,12 +17,12 @@ use Rattle.forms.specs.Kinds.{crypt_of}
 use Rattle.forms.specs.Forms.{kept_of, verified_of}
 use Rattle.forms.proofs.Flags.{both5, both6}
 use Rattle.forms.proofs.Shaped.{shapes}
-use Rattle.earlier.specs.declared.Wanted.TheVariants.{ReplyWith, Cert, Secret}
-use Rattle.earlier.specs.Earlier.{heard_at, said_by, earlier, past}
-use Rattle.rules.specs.Tests.{fresh, key_exchange, cert_verify}
+use Rattle.earlier.specs.Heard.{Heard}
+use Rattle.earlier.specs.Earlier.{heard_at, past}
+use Rattle.rules.specs.Tests.{key_exchange, cert_verify}
 use Rattle.earlier.proofs.Meant.{says_meant, notes_meant, says_told, notes_told, not_later, here_row}
 use Rattle.earlier.proofs.Premises.{event_same, says_same, notes_same, crypt_same, nonce_one, one_row, note_same, reply_with_sound, reply_with_complete, cert_sound, cert_complete, secret_sound, secret_complete}
-use Rattle.rules.proofs.Steps.{Rights, fresh_sound, fresh_complete}
+use Rattle.rules.proofs.Steps.{Rights, Fits, Passes, fresh_sound, fresh_complete}
 
 verify_same : {A A' B B' : paper.agent} {N S : paper.nonce} → A ≡ A' → B ≡ B' →
     paper.Crypt (paper.pri_k A) (paper.Hash (paper.Pair (paper.Nonce N) (paper.Pair (paper.Agent B) (paper.Nonce S)))) ≡
@@ -35,100 +34,86 @@ exchange_same p q x = rw (p, q) x
 
 -- rule 6: this event and the next
 module _ (file : List ℕ) (P : Promised file) (e : ℕ) (le : e < events_of file) (next : suc e < events_of file) (used known : List ℕ) (R : Rights file used known e) where
-  pub key_exchange_sound : key_exchange file used (past file e) (heard_at file e) (heard_at file (suc e)) ≡ true →
+  abbrev note : Heard
+  note = heard_at file e
+
+  abbrev said : Heard
+  said = heard_at file (suc e)
+
+  pub key_exchange_sound : key_exchange file used (past file e) note said ≡ true →
       Exchange (bad file) (beginning file e) (event_meant file (event_at file e)) (event_meant file (event_at file (suc e)))
   unfolding key_exchange
   key_exchange_sound t =
-      let h = heard_at file e in
-      let s = heard_at file (suc e) in
-      let k = kept_of file h.row in
-      let c = crypt_of file s.row in
-      let b =
-      both (not h.says)
-      (k.is && fresh file used k.secret && said_by s h.from k.agent && c.is && eqb c.second k.secret &&
-      earlier file (Cert h.from k.agent c.first) e) t
-      in
-      let d =
-      both6 k.is (fresh file used k.secret) (said_by s h.from k.agent) c.is (eqb c.second k.secret)
-      (earlier file (Cert h.from k.agent c.first) e) b.1
-      in
-      let y = both3 s.says (eqb s.from h.from) (eqb s.to k.agent) d.2 in
-      let g = (shapes file P).kept_sound h.row (here_row file P e le) d.0 in
+      let k = kept_of file note.row in
+      let c = crypt_of file said.row in
+      let b = both _ _ t in
+      let d = both6 _ _ _ _ _ _ b.1 in
+      let y = both3 _ _ _ d.2 in
+      let g = (shapes file P).kept_sound note.row (here_row file P e le) d.0 in
       let f = fresh_sound file P e le used known R k.secret g.1.secret.row d.1 in
-      let x = (shapes file P).crypt_sound s.row (here_row file P (suc e) next) d.3 in
-      let i = cert_sound file P e (not_later file P e le) h.from k.agent c.first d.5 x.first in
+      let x = (shapes file P).crypt_sound said.row (here_row file P (suc e) next) d.3 in
+      let i = cert_sound file P e (not_later file P e le) note.from k.agent c.first d.5 x.first in
       exchange_same
       (notes_meant file (event_at file e) b.0 ∙
       notes_same refl (g.1.whole ∙ note_same refl (nonce_one (sym g.1.secret.meant ∙ f.1))))
       (says_meant file (event_at file (suc e)) y.0 ∙
-      says_same (eqb-true s.from h.from y.1) (eqb-true s.to k.agent y.2)
-      (x.whole ∙ crypt_same refl (ap (message file) (eqb-true c.second k.secret d.4) ∙ f.1)))
+      says_same (eqb-true _ _ y.1) (eqb-true _ _ y.2)
+      (x.whole ∙ crypt_same refl (ap (message file) (eqb-true _ _ d.4) ∙ f.1)))
       (ClientKeyExch f.2 i.1)
 
   pub key_exchange_complete : Exchange (bad file) (beginning file e) (event_meant file (event_at file e)) (event_meant file (event_at file (suc e))) →
-      key_exchange file used (past file e) (heard_at file e) (heard_at file (suc e)) ≡ true
+      key_exchange file used (past file e) note said ≡ true
   unfolding key_exchange
   key_exchange_complete x = go refl refl x
     where
       go : {E F : event.event} → event_meant file (event_at file e) ≡ E → event_meant file (event_at file (suc e)) ≡ F →
-          Exchange (bad file) (beginning file e) E F → key_exchange file used (past file e) (heard_at file e) (heard_at file (suc e)) ≡ true
+          Exchange (bad file) (beginning file e) E F → key_exchange file used (past file e) note said ≡ true
       go p q (ClientKeyExch {PMS = PMS} n i) =
-          let h = heard_at file e in
-          let s = heard_at file (suc e) in
-          let k = kept_of file h.row in
-          let c = crypt_of file s.row in
+          let k = kept_of file note.row in
+          let c = crypt_of file said.row in
           let t = notes_told file (event_at file e) p in
           let y = says_told file (event_at file (suc e)) q in
-          let g = (shapes file P).kept_complete h.row (here_row file P e le) t.2 in
-          let x = (shapes file P).crypt_complete s.row (here_row file P (suc e) next) y.3 in
+          let g = (shapes file P).kept_complete note.row (here_row file P e le) t.2 in
+          let x = (shapes file P).crypt_complete said.row (here_row file P (suc e) next) y.3 in
           let f = fresh_complete file P e le used known R k.secret PMS g.secret n in
-          let u = cert_complete file P e (not_later file P e le) h.from k.agent c.first (rw (← t.1, ← g.agent) at i) x.first in
+          let u = cert_complete file P e (not_later file P e le) note.from k.agent c.first (rw (← t.1, ← g.agent) at i) x.first in
           rw (
             t.0,
             g.flag,
             f,
             y.0,
-            eq-eqb s.from h.from (y.1 ∙ sym t.1),
-            eq-eqb s.to k.agent (y.2 ∙ sym g.agent),
+            eq-eqb said.from note.from (y.1 ∙ sym t.1),
+            eq-eqb said.to k.agent (y.2 ∙ sym g.agent),
             x.flag,
             one_row file P c.second k.secret x.second g.secret,
             u,
           ) refl
 
 module _ (file : List ℕ) (P : Promised file) (e : ℕ) (le : e < events_of file) where
-  pub cert_verify_sound : cert_verify file (past file e) (heard_at file e) ≡ true →
-      Step (bad file) (beginning file e) (event_meant file (event_at file e)) 7
+  abbrev h : Heard
+  h = heard_at file e
+
+  pub cert_verify_sound : cert_verify file (past file e) h ≡ true → Fits file P e le 7
   unfolding cert_verify
   cert_verify_sound t =
-      let h = heard_at file e in
       let m = verified_of file h.row in
       let o = not_later file P e le in
-      let b =
-      both h.says
-      (m.is && eqb m.signer h.from && eqb m.agent h.to && earlier file (ReplyWith h.from m.nb) e &&
-      earlier file (Secret h.from h.to m.secret) e) t
-      in
-      let c =
-      both5 m.is (eqb m.signer h.from) (eqb m.agent h.to) (earlier file (ReplyWith h.from m.nb) e)
-      (earlier file (Secret h.from h.to m.secret) e) b.1
-      in
+      let b = both _ _ t in
+      let c = both5 _ _ _ _ _ b.1 in
       let g = (shapes file P).verified_sound h.row (here_row file P e le) c.0 in
       let i = reply_with_sound file P e o h.from m.nb c.3 g.2.nb in
       let j = secret_sound file P e o h.from h.to m.secret c.4 g.2.secret in
       event_same
       (says_meant file (event_at file e) b.0 ∙
-      says_same refl refl (g.2.whole ∙ verify_same (eqb-true m.signer h.from c.1) (eqb-true m.agent h.to c.2)))
+      says_same refl refl (g.2.whole ∙ verify_same (eqb-true _ _ c.1) (eqb-true _ _ c.2)))
       (CertVerify i.3 j)
 
-  pub cert_verify_complete : Step (bad file) (beginning file e) (event_meant file (event_at file e)) 7 →
-      cert_verify file (past file e) (heard_at file e) ≡ true
+  pub cert_verify_complete : Fits file P e le 7 → cert_verify file (past file e) h ≡ true
   unfolding cert_verify
-  cert_verify_complete s = go refl s
+  cert_verify_complete s = go _ refl s
     where
-      go : {E : event.event} → event_meant file (event_at file e) ≡ E → Step (bad file) (beginning file e) E 7 →
-          cert_verify file (past file e) (heard_at file e) ≡ true
-      go q (CertVerify i j) =
-          let h = heard_at file e in
+      go : Passes file P e le 7 (cert_verify file (past file e) h)
+      go _ q (CertVerify i j) =
           let m = verified_of file h.row in
           let o = not_later file P e le in
           let t = says_told file (event_at file e) q in

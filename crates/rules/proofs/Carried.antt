@@ -5,28 +5,22 @@ use mathlib.Core.Bool.{Bool, true, false, ◌&&◌, ◌||◌, true≢false}
 use mathlib.Core.List.{List}
 use mathlib.Core.Path.{◌≡◌, refl, sym, ◌∙◌, ap, subst}
 use native.Mathlib.Omega.{arith}
-use native.Mathlib.Decide.{ℕ_discrete, dec_lt}
+use native.Mathlib.Decide.{ℕ_discrete}
 use lib.Dec.{eqb, ltb, leb}
 use lib.ListN.{set}
 use lib.Seq.{get_or-set_other}
-use borrow.Author.Tests.{ltb-true, leb-true, le-leb}
+use borrow.Author.Tests.{ltb-true, leb-true}
+use Rattle.std.proofs.lemmas.Bool.{leb-false}
 use Rattle.trace.specs.File.{row_limit}
-use Rattle.laws.specs.Choose.{choose}
 use Rattle.trace.specs.Kinds.{row_at}
-use Rattle.earlier.specs.declared.Heard.{Heard}
+use Rattle.earlier.specs.Heard.{Heard}
 use Rattle.closure.specs.Closure.{row_marked, zeros}
 use Rattle.closure.proofs.Marks.{none_marked}
 use Rattle.rules.specs.declared.synth.Parts.{Parts}
+use Rattle.rules.specs.declared.synth.Parts.TheVariants.{Leaf, Two}
 use Rattle.rules.specs.Tests.{can_make, fake}
 use Rattle.rules.specs.Making.{Made, told, parts_of, made_below, made_last, make_both, make_with, make_row, try_fake, SoundMarks}
 use Rattle.rules.proofs.Making.{can_below, can_of, known_made, far_not_made, parts_made}
-
-leb_false : (m n : ℕ) → leb m n ≡ false → n < m
-leb_false m n e = go (dec_lt n m)
-  where
-    go : Dec (n < m) → n < m
-    go (yes l) = l
-    go (no l) = absurd (true≢false (sym (le-leb m n (omega arith)) ∙ e))
 
 module _ (file known : List ℕ) where
   -- the answer is b, and the marks are sound
@@ -79,14 +73,8 @@ module _ (file known : List ℕ) where
 
     with_right : (ms : List ℕ) (p : Parts) → (can_of file known row p ≡ true → can_make file known row ≡ true) →
         SoundMarks file known ms → Right (make_with go ms row p) (can_of file known row p)
-    with_right ms p c s = by_test p.leaf c
-      where
-        by_test : (b : Bool) →
-            (choose b p.can (can_below file known row p.left && can_below file known row p.right) ≡ true → can_make file known row ≡ true) →
-            Right (elim b as (λ _. Made) [ true ↦ told ms p.can | false ↦ make_both go ms row p.left p.right ])
-            (choose b p.can (can_below file known row p.left && can_below file known row p.right))
-        by_test true c = (refl, s)
-        by_test false c = both_right ms p.left p.right c s
+    with_right ms (Leaf can) c s = (refl, s)
+    with_right ms (Two x y) c s = both_right ms x y c s
 
   pub make_right : (d : ℕ) (ms : List ℕ) (row : ℕ) → row < d → SoundMarks file known ms →
       Right (make_row file known d ms row) (can_make file known row)
@@ -110,7 +98,7 @@ module _ (file known : List ℕ) where
       by_test false true p ek em ep ih = (sym (s row em), s)
       by_test false false true ek em ep ih = (sym (far_not_made file known (suc row) row (leb-true row_limit row ep)), s)
       by_test false false false ek em ep ih =
-          let e = parts_made file known row (leb_false row_limit row ep) ek in
+          let e = parts_made file known row (leb-false row_limit row ep) ek in
           let q = ih (λ t. e ∙ t) in
           (q.0 ∙ sym e, q.1)
 

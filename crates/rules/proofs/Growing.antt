@@ -18,10 +18,10 @@ use Rattle.trace.specs.declared.Event.{Event}
 use Rattle.trace.specs.declared.Event.TheVariants.{Says, Notes}
 use Rattle.laws.proofs.Both.{both}
 use Rattle.spy.specs.Made.{made, makes, write_marks}
-use Rattle.closure.specs.Closure.{State, state_of, row_marked, sides_of, below, both_sides, learn_with, learn_row, reopens, reopen_row, up_rows, down_rows, pass_rows, settle, see_row, see_event}
+use Rattle.closure.specs.Closure.{State, row_marked, sides_of, below, both_sides, learn_row, reopens, reopen_row, up_rows, down_rows, pass_rows, settle, see_row, see_event}
 use Rattle.rules.specs.Tests.{can_make}
 use Rattle.rules.specs.Making.{Kept}
-use Rattle.rules.proofs.Branches.{and}
+use Rattle.std.specs.Cmp.Derive.{both_true}
 use Rattle.rules.proofs.Making.{swept, swept_here, swept_other, far_not_made}
 
 -- a store of a mark loses none
@@ -35,17 +35,22 @@ set_kept rs r x m = go (ℕ_discrete x r) (dec_lt r (length rs))
         let b = both (ltb x row_limit) (eqb (get_or rs x 0) 1) m in
         rw (b.0, e, get_or-set_same rs r 1 0 l) refl
 
+-- whichever way a test goes
+either_kept : {A : Type 0} (rows : A → List ℕ) (rs : List ℕ) (b : Bool) (s t : A) → Kept rs (rows s) → Kept rs (rows t) →
+    Kept rs (rows (elim b as (λ _. A) [ true ↦ s | false ↦ t ]))
+either_kept rows rs true s t p q = p
+either_kept rows rs false s t p q = q
+
 -- by what a Says or a note of a compromised agent teaches
 module _ (file : List ℕ) where
+  abbrev rows_in : State → List ℕ
+  rows_in s = s.rows
+
   abbrev Learns : (List ℕ → List ℕ → ℕ → State) → Type 0
   Learns go = (rs ks : List ℕ) (x : ℕ) → Kept rs (go rs ks x).rows
 
   below_kept : (go : List ℕ → List ℕ → ℕ → State) → Learns go → (rs ks : List ℕ) (row x : ℕ) → Kept rs (below go rs ks row x).rows
-  below_kept go g rs ks row x = by_test (ltb x row)
-    where
-      by_test : (b : Bool) → Kept rs (elim b as (λ _. State) [ true ↦ go rs ks x | false ↦ state_of rs ks false ]).rows
-      by_test true = g rs ks x
-      by_test false = λ y m. m
+  below_kept go g rs ks row x = either_kept rows_in _ (ltb x row) _ _ (g rs ks x) (λ y m. m)
 
   both_kept : (go : List ℕ → List ℕ → ℕ → State) → Learns go → (rs ks : List ℕ) (row : ℕ) →
       Kept rs (both_sides go rs ks row (sides_of file rs ks row (row_at file row))).rows
@@ -57,28 +62,13 @@ module _ (file : List ℕ) where
   learn_kept : (d : ℕ) → Learns (learn_row file d)
   unfolding learn_row
   learn_kept zero rs ks row = λ x m. m
-  learn_kept (suc d) rs ks row = by_test (row_marked rs row || leb row_limit row) (learn_kept d)
-    where
-      by_test : (b : Bool) → Learns (learn_row file d) →
-          Kept rs (elim b as (λ _. State) [
-            | true ↦ state_of rs ks false
-            | false ↦ learn_with (λ rs ks x. learn_row file d rs ks x) rs ks row (sides_of file rs ks row (row_at file row)) (row_at file row)
-          ]).rows
-      by_test true g = λ x m. m
-      by_test false g = λ x m.
-          let s = sides_of file rs ks row (row_at file row) in
-          set_kept (both_sides (learn_row file d) rs ks row s).rows row x (both_kept (learn_row file d) g rs ks row x m)
+  learn_kept (suc d) rs ks row =
+      let s = sides_of file rs ks row (row_at file row) in
+      either_kept rows_in _ (row_marked rs row || leb row_limit row) _ _ (λ x m. m)
+      (λ x m. set_kept (both_sides (learn_row file d) rs ks row s).rows row x (both_kept (learn_row file d) (learn_kept d) rs ks row x m))
 
   reopen_kept : (rs ks : List ℕ) (r : ℕ) → Kept rs (reopen_row file rs ks r).rows
-  reopen_kept rs ks r = by_test (reopens file rs r)
-    where
-      by_test : (b : Bool) →
-          Kept rs (elim b as (λ _. State) [
-            | true ↦ both_sides (learn_row file r) rs ks r (sides_of file rs ks r (row_at file r))
-            | false ↦ state_of rs ks false
-          ]).rows
-      by_test true = both_kept (learn_row file r) (learn_kept r) rs ks r
-      by_test false = λ x m. m
+  reopen_kept rs ks r = either_kept rows_in _ (reopens file rs r) _ _ (both_kept (learn_row file r) (learn_kept r) rs ks r) (λ x m. m)
 
   up_kept : (n : ℕ) (rs ks : List ℕ) → Kept rs (up_rows file n rs ks).rows
   unfolding up_rows
@@ -96,36 +86,23 @@ module _ (file : List ℕ) where
 
   pass_kept : (n : ℕ) (rs ks : List ℕ) → Kept rs (pass_rows file n rs ks).rows
   unfolding pass_rows
-  pass_kept n rs ks = by_test (up_rows file n rs ks).fresh
-    where
-      by_test : (b : Bool) →
-          let s = up_rows file n rs ks in
-          Kept rs (elim b as (λ _. State) [ true ↦ down_rows file n s.rows s.keys | false ↦ s ]).rows
-      by_test true = λ x m.
-          let s = up_rows file n rs ks in
-          down_kept n s.rows s.keys x (up_kept n rs ks x m)
-      by_test false = up_kept n rs ks
+  pass_kept n rs ks =
+      let s = up_rows file n rs ks in
+      either_kept rows_in _ s.fresh _ _ (λ x m. down_kept n s.rows s.keys x (up_kept n rs ks x m)) (up_kept n rs ks)
 
   settle_kept : (d : ℕ) (s : State) → Kept s.rows (settle file d s).rows
   unfolding settle
   settle_kept zero s = λ x m. m
-  settle_kept (suc d) s = by_test s.fresh (λ (t : State). settle_kept d t)
-    where
-      by_test : (b : Bool) → ((t : State) → Kept t.rows (settle file d t).rows) →
-          Kept s.rows (elim b as (λ _. State) [ true ↦ settle file d (pass_rows file (rows_of file) s.rows s.keys) | false ↦ s ]).rows
-      by_test true g = λ x m. g (pass_rows file (rows_of file) s.rows s.keys) x (pass_kept (rows_of file) s.rows s.keys x m)
-      by_test false g = λ x m. m
+  settle_kept (suc d) s =
+      let t = pass_rows file (rows_of file) s.rows s.keys in
+      either_kept rows_in _ s.fresh _ _ (λ x m. settle_kept d t x (pass_kept (rows_of file) s.rows s.keys x m)) (λ x m. m)
 
   row_kept : (rs ks : List ℕ) (row : ℕ) → Kept rs (see_row file rs ks row).rows
   row_kept rs ks row x m = settle_kept row_limit (learn_row file (suc row) rs ks row) x (learn_kept (suc row) rs ks row x m)
 
   pub see_kept : (rs ks : List ℕ) (E : Event) → Kept rs (see_event file rs ks E).rows
   see_kept rs ks (Says a b r) = row_kept rs ks r.0
-  see_kept rs ks (Notes a r) = by_test (compromised_in file a.0)
-    where
-      by_test : (b : Bool) → Kept rs (elim b as (λ _. State) [ true ↦ see_row file rs ks r.0 | false ↦ state_of rs ks false ]).rows
-      by_test true = row_kept rs ks r.0
-      by_test false = λ x m. m
+  see_kept rs ks (Notes a r) = either_kept rows_in _ (compromised_in file a.0) _ _ (row_kept rs ks r.0) (λ x m. m)
 
 -- more is known: more can be made
 module _ (file known known' : List ℕ) (kept : Kept known known') where
@@ -141,10 +118,10 @@ module _ (file known known' : List ℕ) (kept : Kept known known') where
     makes_more (Hash x) e = more x.0 e
     makes_more (Crypt k x) e =
         let b = both (row_marked known k.0) (made ms x.0) e in
-        and (kept k.0 b.0) (more x.0 b.1)
+        both_true (kept k.0 b.0) (more x.0 b.1)
     makes_more (Pair x y) e =
         let b = both (made ms x.0) (made ms y.0) e in
-        and (more x.0 b.0) (more y.0 b.1)
+        both_true (more x.0 b.0) (more y.0 b.1)
 
   either : (a b a' b' : Bool) → (a ≡ true → a' ≡ true) → (b ≡ true → b' ≡ true) → choose a true b ≡ true → choose a' true b' ≡ true
   either true b a' b' f g e = rw (f refl) refl

@@ -1,7 +1,6 @@
 pub mod Steps
 pub mod Answers
 pub mod Making
-pub mod Asking
+pub mod Depth
 pub mod Growing
 pub mod Carried
-pub mod Branches

@@ -5,13 +5,14 @@ use Prim.Native.Nat.{ℕ, zero, suc, ◌<◌, ◌≤◌}
 use mathlib.Core.Bool.{Bool, true, false, ◌&&◌}
 use mathlib.Core.List.{List}
 use mathlib.Core.Logic.{◌⊎◌, inl, inr}
-use mathlib.Core.Path.{◌≡◌, refl, ◌∙◌}
+use mathlib.Core.Path.{◌≡◌, refl, sym, ◌∙◌}
 use native.Mathlib.Omega.{arith}
 use native.Mathlib.Decide.{dec_lt}
 use lib.Dec.{eqb, ltb}
 use lib.ListN.{length, get_or, length-replicate, get_or-replicate, get_or-eq_default}
 use lib.Seq.{get_or-set_same, get_or-set_other}
 use borrow.Author.Tests.{ltb-true, lt-ltb, le-ltb}
+use Rattle.std.proofs.Math.Bool.{and_self}
 use Rattle.trace.specs.File.{row_limit}
 use Rattle.laws.specs.Choose.{choose}
 use Rattle.trace.specs.Kinds.{row_at}
@@ -23,17 +24,14 @@ use Rattle.closure.specs.Closure.{row_marked, zeros}
 use Rattle.spy.specs.Made.{made, makes, mark_of, write_marks}
 use Rattle.spy.proofs.Sweep.{marks_length}
 use Rattle.rules.specs.declared.synth.Parts.{Parts}
+use Rattle.rules.specs.declared.synth.Parts.TheVariants.{Leaf, Two}
 use Rattle.rules.specs.Tests.{can_make}
-use Rattle.rules.specs.Making.{leaf_of, two_of, parts_of}
+use Rattle.rules.specs.Making.{parts_of}
 
 mark_is : (k b : Bool) → ltb 0 (choose {A = ℕ} k 2 (choose {A = ℕ} b 1 0)) ≡ choose k true b
 mark_is true b = refl
 mark_is false true = refl
 mark_is false false = refl
-
-twice : (b : Bool) → b ≡ (b && b)
-twice true = refl
-twice false = refl
 
 zero_not_made : (x : ℕ) → made (zeros row_limit) x ≡ false
 zero_not_made x = go (dec_lt x row_limit)
@@ -95,11 +93,12 @@ module _ (file known : List ℕ) where
 
   -- by what the row is made from
   abbrev pub can_of : ℕ → Parts → Bool
-  can_of row p = choose p.leaf p.can (can_below row p.left && can_below row p.right)
+  can_of row (Leaf can) = can
+  can_of row (Two x y) = can_below row x && can_below row y
 
   -- a Crypt, by whether its key is known
-  crypt_is : (row x : ℕ) (k : Bool) → (k && made (swept row) x) ≡ can_of row (choose k (two_of x x) (leaf_of false))
-  crypt_is row x true = below_is row x ∙ twice (can_below row x)
+  crypt_is : (row x : ℕ) (k : Bool) → (k && made (swept row) x) ≡ can_of row (choose k (Two x x) (Leaf false))
+  crypt_is row x true = below_is row x ∙ sym (and_self (can_below row x))
   crypt_is row x false = refl
 
   parts_is : (row : ℕ) (R : Row) → makes known (swept row) R ≡ can_of row (parts_of known R)
@@ -110,7 +109,7 @@ module _ (file known : List ℕ) where
   parts_is row (PublicKey a) = refl
   parts_is row (PrivateKey a) = refl
   parts_is row (SessionKey o x y z) = refl
-  parts_is row (Hash x) = below_is row x.0 ∙ twice (can_below row x.0)
+  parts_is row (Hash x) = below_is row x.0 ∙ sym (and_self (can_below row x.0))
   parts_is row (Crypt k x) = crypt_is row x.0 (row_marked known k.0)
   parts_is row (Pair x y) = rw (below_is row x.0, below_is row y.0) refl
 

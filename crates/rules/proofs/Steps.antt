@@ -1,10 +1,9 @@
 -- The rules of one message: each test passes exactly when the paper's rule puts the event on the trace so far.
 -- Assumes nothing.
 use Prim.Native.Nat.{ℕ, ◌<◌}
-use mathlib.Core.Bool.{Bool, true, false, not, ◌&&◌, true≢false}
+use mathlib.Core.Bool.{Bool, true, not, true≢false}
 use mathlib.Core.List.{List}
 use mathlib.Core.Path.{◌≡◌, refl, sym, ◌∙◌, ap}
-use lib.Dec.{eqb}
 use borrow.Author.Tests.{eqb-true, eq-eqb}
 use Rattle.paper.specs.Message as paper
 use Rattle.paper.specs.Event as event
@@ -15,15 +14,16 @@ use Rattle.trace.specs.File.{rows_of, events_of}
 use Rattle.trace.specs.Events.{event_at}
 use Rattle.trace.specs.Meaning.{message, event_meant, beginning, bad}
 use Rattle.trace.specs.Promises.{Promised}
+use Rattle.std.specs.Cmp.Derive.{both_true}
 use Rattle.laws.proofs.Both.{both, both3, both4, refuted}
 use Rattle.closure.specs.Closure.{row_marked}
 use Rattle.closure.proofs.Marks.{Marked}
-use Rattle.forms.specs.Kinds.{public_of, session_of, is_plain}
+use Rattle.forms.specs.Kinds.{public_of}
 use Rattle.forms.specs.Forms.{hello_of, reply_of, signed_of, derived_of}
 use Rattle.forms.specs.Shapes.{RowHolds}
 use Rattle.forms.proofs.Shaped.{shapes}
-use Rattle.earlier.specs.declared.Wanted.TheVariants.{HelloFor, Under}
-use Rattle.earlier.specs.Earlier.{heard_at, noted_by, earlier, past}
+use Rattle.earlier.specs.Heard.{Heard}
+use Rattle.earlier.specs.Earlier.{heard_at, past}
 use Rattle.rules.specs.Tests.{fresh, can_make, fake, spy_keys, client_hello, server_hello, certificate, oops}
 use Rattle.earlier.proofs.Meant.{says_meant, notes_meant, says_told, notes_told, not_later, here_row, not_true}
 use Rattle.earlier.proofs.Premises.{event_same, says_same, notes_same, nonce_one, key_one, hello_same, cert_same, hello_for_sound, hello_for_complete, under_sound, under_complete}
@@ -43,172 +43,154 @@ reply_same : {N N' : paper.nonce} {S Q : ℕ} → N ≡ N' → SH N S Q ≡ SH N
 reply_same n = rw n refl
 
 module _ (file : List ℕ) (P : Promised file) (e : ℕ) (le : e < events_of file) where
-  pub not_flipped : (b : Bool) → b ≡ false → not b ≡ true
-  not_flipped true h = absurd (true≢false h)
-  not_flipped false h = refl
+  abbrev pub h : Heard
+  h = heard_at file e
+
+  abbrev pub here : h.row < rows_of file
+  here = here_row file P e le
+
+  -- rule n puts event e there
+  abbrev pub Fits : ℕ → Type 0
+  Fits n = Step (bad file) (beginning file e) (event_meant file (event_at file e)) n
+
+  -- a test passes of each event that is meant by event e, and that rule n puts there
+  abbrev pub Passes : ℕ → Bool → Type 0
+  Passes n test = (E : event.event) → event_meant file (event_at file e) ≡ E → Step (bad file) (beginning file e) E n → test ≡ true
 
   module _ (used known : List ℕ) (R : Rights file used known e) where
     pub fresh_sound : (x : ℕ) → x < rows_of file → fresh file used x ≡ true →
         (n : ℕ) × (message file x ≡ paper.Nonce (paper.plain n)) × (¬ Used (paper.Nonce (paper.plain n)) (beginning file e))
     fresh_sound x l t =
-        let b = both (is_plain file x) (not (row_marked used x)) t in
+        let b = both _ _ t in
         let p = (shapes file P).plain_sound x l b.0 in
-        let f = not_true (row_marked used x) b.1 in
-        (p.0, p.1, λ u. true≢false (sym ((R.used_right x l).1 (rw p.1 u)) ∙ f))
+        (p.0, p.1, λ u. true≢false (sym ((R.used_right x l).1 (rw p.1 u)) ∙ not_true _ b.1))
 
     pub fresh_complete : (x n : ℕ) → RowHolds file x (paper.Nonce (paper.plain n)) → ¬ Used (paper.Nonce (paper.plain n)) (beginning file e) →
         fresh file used x ≡ true
     fresh_complete x n h u =
-        let p = (shapes file P).plain_complete x h.row h.meant in
         let f = refuted (row_marked used x) (λ m. u (rw h.meant at ((R.used_right x h.row).0 m))) in
-        rw (p, f) refl
+        both_true ((shapes file P).plain_complete x h.row h.meant) (ap not f)
 
-    pub fake_sound : fake file known (heard_at file e) ≡ true → Step (bad file) (beginning file e) (event_meant file (event_at file e)) 1
+    pub fake_sound : fake file known h ≡ true → Fits 1
     unfolding fake
     fake_sound t =
-        let h = heard_at file e in
-        let b = both3 h.says (eqb h.from 0) (can_make file known h.row) t in
-        event_same (says_meant file (event_at file e) b.0 ∙ says_same (eqb-true h.from 0 b.1) refl refl)
-        (Fake ((R.made_right h.row (here_row file P e le)).0 b.2))
+        let b = both3 _ _ _ t in
+        event_same (says_meant file (event_at file e) b.0 ∙ says_same (eqb-true _ _ b.1) refl refl) (Fake ((R.made_right h.row here).0 b.2))
 
-    pub fake_complete : Step (bad file) (beginning file e) (event_meant file (event_at file e)) 1 → fake file known (heard_at file e) ≡ true
+    pub fake_complete : Fits 1 → fake file known h ≡ true
     unfolding fake
-    fake_complete s = go refl s
+    fake_complete s = go _ refl s
       where
-        go : {E : event.event} → event_meant file (event_at file e) ≡ E → Step (bad file) (beginning file e) E 1 →
-            fake file known (heard_at file e) ≡ true
-        go q (Fake s) =
-            let h = heard_at file e in
+        go : Passes 1 (fake file known h)
+        go _ q (Fake s) =
             let t = says_told file (event_at file e) q in
-            rw (t.0, eq-eqb h.from 0 t.1, (R.made_right h.row (here_row file P e le)).1 (rw t.3 s)) refl
+            rw (t.0, eq-eqb h.from 0 t.1, (R.made_right h.row here).1 (rw t.3 s)) refl
 
-    pub certificate_sound : certificate file (heard_at file e) ≡ true →
-        Step (bad file) (beginning file e) (event_meant file (event_at file e)) 5
+    pub certificate_sound : certificate file h ≡ true → Fits 5
     unfolding certificate
     certificate_sound t =
-        let h = heard_at file e in
         let m = signed_of file h.row in
-        let k = public_of file m.key in
-        let b = both h.says (m.is && eqb m.agent h.from && k.is && eqb k.first h.from) t in
-        let c = both4 m.is (eqb m.agent h.from) k.is (eqb k.first h.from) b.1 in
-        let g = (shapes file P).signed_sound h.row (here_row file P e le) c.0 in
+        let b = both _ _ t in
+        let c = both4 _ _ _ _ b.1 in
+        let g = (shapes file P).signed_sound h.row here c.0 in
         let p = (shapes file P).public_sound m.key g.1.key.row c.2 in
-        let o = key_one (sym g.1.key.meant ∙ p.whole) ∙ ap paper.pub_k (eqb-true k.first h.from c.3) in
+        let o = key_one (sym g.1.key.meant ∙ p.whole) ∙ ap paper.pub_k (eqb-true _ _ c.3) in
         event_same
         (says_meant file (event_at file e) b.0 ∙
-        says_same refl refl (g.1.whole ∙ cert_same (eqb-true m.agent h.from c.1) o))
+        says_same refl refl (g.1.whole ∙ cert_same (eqb-true _ _ c.1) o))
         Certificate
 
-    pub certificate_complete : Step (bad file) (beginning file e) (event_meant file (event_at file e)) 5 →
-        certificate file (heard_at file e) ≡ true
+    pub certificate_complete : Fits 5 → certificate file h ≡ true
     unfolding certificate
-    certificate_complete s = go refl s
+    certificate_complete s = go _ refl s
       where
-        go : {E : event.event} → event_meant file (event_at file e) ≡ E → Step (bad file) (beginning file e) E 5 →
-            certificate file (heard_at file e) ≡ true
-        go q Certificate =
-            let h = heard_at file e in
+        go : Passes 5 (certificate file h)
+        go _ q Certificate =
             let m = signed_of file h.row in
             let k = public_of file m.key in
             let t = says_told file (event_at file e) q in
-            let g = (shapes file P).signed_complete h.row (here_row file P e le) t.3 in
+            let g = (shapes file P).signed_complete h.row here t.3 in
             let p = (shapes file P).public_complete m.key g.key.row g.key.meant in
             rw (t.0, g.flag, eq-eqb m.agent h.from (g.agent ∙ sym t.1), p.flag, eq-eqb k.first h.from (p.agent ∙ sym t.1)) refl
 
-    pub client_hello_sound : client_hello file used (heard_at file e) ≡ true →
-        Step (bad file) (beginning file e) (event_meant file (event_at file e)) 3
+    pub client_hello_sound : client_hello file used h ≡ true → Fits 3
     unfolding client_hello
     client_hello_sound t =
-        let h = heard_at file e in
         let m = hello_of file h.row in
-        let b = both h.says (m.is && eqb m.agent h.from && fresh file used m.na) t in
-        let c = both3 m.is (eqb m.agent h.from) (fresh file used m.na) b.1 in
-        let g = (shapes file P).hello_sound h.row (here_row file P e le) c.0 in
+        let b = both _ _ t in
+        let c = both3 _ _ _ b.1 in
+        let g = (shapes file P).hello_sound h.row here c.0 in
         let f = fresh_sound m.na g.3.na.row c.2 in
         event_same
         (says_meant file (event_at file e) b.0 ∙
-        says_same refl refl
-        (g.3.whole ∙ hello_same (eqb-true m.agent h.from c.1) (nonce_one (sym g.3.na.meant ∙ f.1)) refl refl))
+        says_same refl refl (g.3.whole ∙ hello_same (eqb-true _ _ c.1) (nonce_one (sym g.3.na.meant ∙ f.1)) refl refl))
         (ClientHello f.2)
 
-    pub client_hello_complete : Step (bad file) (beginning file e) (event_meant file (event_at file e)) 3 →
-        client_hello file used (heard_at file e) ≡ true
+    pub client_hello_complete : Fits 3 → client_hello file used h ≡ true
     unfolding client_hello
-    client_hello_complete s = go refl s
+    client_hello_complete s = go _ refl s
       where
-        go : {E : event.event} → event_meant file (event_at file e) ≡ E → Step (bad file) (beginning file e) E 3 →
-            client_hello file used (heard_at file e) ≡ true
-        go q (ClientHello {Na = Na} u) =
-            let h = heard_at file e in
+        go : Passes 3 (client_hello file used h)
+        go _ q (ClientHello {Na = Na} u) =
             let m = hello_of file h.row in
             let t = says_told file (event_at file e) q in
-            let g = (shapes file P).hello_complete h.row (here_row file P e le) t.3 in
+            let g = (shapes file P).hello_complete h.row here t.3 in
             rw (t.0, g.flag, eq-eqb m.agent h.from (g.agent ∙ sym t.1), fresh_complete m.na Na g.na u) refl
 
-    pub spy_keys_sound : spy_keys file known (heard_at file e) ≡ true →
-        Step (bad file) (beginning file e) (event_meant file (event_at file e)) 2
+    pub spy_keys_sound : spy_keys file known h ≡ true → Fits 2
     unfolding spy_keys
     spy_keys_sound t =
-        let h = heard_at file e in
         let d = derived_of file h.row in
-        let b = both (noted_by h 0) (d.is && row_marked known d.m && row_marked known d.na && row_marked known d.nb) t in
-        let n = both (not h.says) (eqb h.from 0) b.0 in
-        let c = both4 d.is (row_marked known d.m) (row_marked known d.na) (row_marked known d.nb) b.1 in
-        let g = (shapes file P).derived_sound h.row (here_row file P e le) c.0 in
+        let b = both _ _ t in
+        let n = both _ _ b.0 in
+        let c = both4 _ _ _ _ b.1 in
+        let g = (shapes file P).derived_sound h.row here c.0 in
         event_same
-        (notes_meant file (event_at file e) n.0 ∙ notes_same (eqb-true h.from 0 n.1) g.4.whole)
+        (notes_meant file (event_at file e) n.0 ∙ notes_same (eqb-true _ _ n.1) g.4.whole)
         (SpyKeys (rw g.4.m.meant at ((R.known_right d.m g.4.m.row).0 c.1))
         (rw g.4.na.meant at ((R.known_right d.na g.4.na.row).0 c.2))
         (rw g.4.nb.meant at ((R.known_right d.nb g.4.nb.row).0 c.3)))
 
-    pub spy_keys_complete : Step (bad file) (beginning file e) (event_meant file (event_at file e)) 2 →
-        spy_keys file known (heard_at file e) ≡ true
+    pub spy_keys_complete : Fits 2 → spy_keys file known h ≡ true
     unfolding spy_keys
-    spy_keys_complete s = go refl s
+    spy_keys_complete s = go _ refl s
       where
-        go : {E : event.event} → event_meant file (event_at file e) ≡ E → Step (bad file) (beginning file e) E 2 →
-            spy_keys file known (heard_at file e) ≡ true
-        go q (SpyKeys x y z) =
-            let h = heard_at file e in
+        go : Passes 2 (spy_keys file known h)
+        go _ q (SpyKeys x y z) =
             let d = derived_of file h.row in
             let t = notes_told file (event_at file e) q in
-            let g = (shapes file P).derived_complete h.row (here_row file P e le) t.2 in
+            let g = (shapes file P).derived_complete h.row here t.2 in
             let i = (R.known_right d.m g.m.row).1 (rw g.m.meant x) in
             let j = (R.known_right d.na g.na.row).1 (rw g.na.meant y) in
             let k = (R.known_right d.nb g.nb.row).1 (rw g.nb.meant z) in
             rw (t.0, eq-eqb h.from 0 t.1, g.flag, i, j, k) refl
 
-    pub oops_sound : oops file (past file e) (heard_at file e) ≡ true → Step (bad file) (beginning file e) (event_meant file (event_at file e)) 14
+    pub oops_sound : oops file (past file e) h ≡ true → Fits 14
     unfolding oops
     oops_sound t =
-        let h = heard_at file e in
-        let b = both4 h.says (eqb h.to 0) (session_of file h.row).is (earlier file (Under h.from h.row) e) t in
-        let g = (shapes file P).session_sound h.row (here_row file P e le) b.2 in
-        let u = under_sound file P e (not_later file P e le) h.from h.row b.3 (record { row = here_row file P e le; meant = g.whole }) in
-        event_same (says_meant file (event_at file e) b.0 ∙ says_same refl (eqb-true h.to 0 b.1) g.whole) (Oops u.2)
+        let b = both4 _ _ _ _ t in
+        let g = (shapes file P).session_sound h.row here b.2 in
+        let u = under_sound file P e (not_later file P e le) h.from h.row b.3 (record { row = here; meant = g.whole }) in
+        event_same (says_meant file (event_at file e) b.0 ∙ says_same refl (eqb-true _ _ b.1) g.whole) (Oops u.2)
 
-    pub oops_complete : Step (bad file) (beginning file e) (event_meant file (event_at file e)) 14 → oops file (past file e) (heard_at file e) ≡ true
+    pub oops_complete : Fits 14 → oops file (past file e) h ≡ true
     unfolding oops
-    oops_complete s = go refl s
+    oops_complete s = go _ refl s
       where
-        go : {E : event.event} → event_meant file (event_at file e) ≡ E → Step (bad file) (beginning file e) E 14 →
-            oops file (past file e) (heard_at file e) ≡ true
-        go q (Oops i) =
-            let h = heard_at file e in
+        go : Passes 14 (oops file (past file e) h)
+        go _ q (Oops i) =
             let t = says_told file (event_at file e) q in
-            let g = (shapes file P).session_complete h.row (here_row file P e le) t.3 in
-            let u = under_complete file P e (not_later file P e le) h.from h.row (rw (← t.1) at i) (record { row = here_row file P e le; meant = t.3 }) in
+            let g = (shapes file P).session_complete h.row here t.3 in
+            let u = under_complete file P e (not_later file P e le) h.from h.row (rw (← t.1) at i) (record { row = here; meant = t.3 }) in
             rw (t.0, eq-eqb h.to 0 t.2, g.flag, u) refl
 
-    pub server_hello_sound : server_hello file used (past file e) (heard_at file e) ≡ true →
-        Step (bad file) (beginning file e) (event_meant file (event_at file e)) 4
+    pub server_hello_sound : server_hello file used (past file e) h ≡ true → Fits 4
     unfolding server_hello
     server_hello_sound t =
-        let h = heard_at file e in
         let m = reply_of file h.row in
-        let b = both h.says (m.is && fresh file used m.nb && earlier file (HelloFor h.from h.to m.sid) e) t in
-        let c = both3 m.is (fresh file used m.nb) (earlier file (HelloFor h.from h.to m.sid) e) b.1 in
-        let g = (shapes file P).reply_sound h.row (here_row file P e le) c.0 in
+        let b = both _ _ t in
+        let c = both3 _ _ _ b.1 in
+        let g = (shapes file P).reply_sound h.row here c.0 in
         let f = fresh_sound m.nb g.3.nb.row c.1 in
         let u = hello_for_sound file P e (not_later file P e le) h.from h.to m.sid c.2 g.3.sid in
         event_same
@@ -216,17 +198,14 @@ module _ (file : List ℕ) (P : Promised file) (e : ℕ) (le : e < events_of fil
         says_same refl refl (g.3.whole ∙ reply_same (nonce_one (sym g.3.nb.meant ∙ f.1))))
         (ServerHello f.2 u.3)
 
-    pub server_hello_complete : Step (bad file) (beginning file e) (event_meant file (event_at file e)) 4 →
-        server_hello file used (past file e) (heard_at file e) ≡ true
+    pub server_hello_complete : Fits 4 → server_hello file used (past file e) h ≡ true
     unfolding server_hello
-    server_hello_complete s = go refl s
+    server_hello_complete s = go _ refl s
       where
-        go : {E : event.event} → event_meant file (event_at file e) ≡ E → Step (bad file) (beginning file e) E 4 →
-            server_hello file used (past file e) (heard_at file e) ≡ true
-        go q (ServerHello {Nb = Nb} n i) =
-            let h = heard_at file e in
+        go : Passes 4 (server_hello file used (past file e) h)
+        go _ q (ServerHello {Nb = Nb} n i) =
             let m = reply_of file h.row in
             let t = says_told file (event_at file e) q in
-            let g = (shapes file P).reply_complete h.row (here_row file P e le) t.3 in
+            let g = (shapes file P).reply_complete h.row here t.3 in
             let u = hello_for_complete file P e (not_later file P e le) h.from h.to m.sid (rw (← t.1, ← t.2) at i) g.sid in
             rw (t.0, g.flag, fresh_complete m.nb Nb g.nb n, u) refl

@@ -7,8 +7,9 @@ use Rattle.trace.specs.Kinds.{row_at}
 use Rattle.trace.specs.declared.Row.{Row}
 use Rattle.trace.specs.declared.Row.TheVariants.{Agent, Number, Nonce, Prf, PublicKey, PrivateKey, SessionKey, Hash, Crypt, Pair}
 use Rattle.closure.specs.Closure.{row_marked}
-use Rattle.earlier.specs.declared.Heard.{Heard}
+use Rattle.earlier.specs.Heard.{Heard}
 use Rattle.rules.specs.declared.synth.Parts.{Parts}
+use Rattle.rules.specs.declared.synth.Parts.TheVariants.{Leaf, Two}
 use Rattle.rules.specs.Tests.{can_make}
 
 -- the marks after a question, and its answer
@@ -20,23 +21,17 @@ abbrev pub told : List ℕ → Bool → Made
 told marks is = record { marks = marks; is = is }
 
 -- what a row that is not known is made from: two lower rows, or nothing, where its kind tells
-abbrev pub leaf_of : Bool → Parts
-leaf_of can = record { leaf = true; can = can; left = 0; right = 0 }
-
-abbrev pub two_of : ℕ → ℕ → Parts
-two_of x y = record { leaf = false; can = false; left = x; right = y }
-
 abbrev pub parts_of : (known : List ℕ) → Row → Parts
-parts_of known (Agent a) = leaf_of true
-parts_of known (Number n) = leaf_of true
-parts_of known (Nonce n) = leaf_of false
-parts_of known (Prf s x y) = leaf_of false
-parts_of known (PublicKey a) = leaf_of false
-parts_of known (PrivateKey a) = leaf_of false
-parts_of known (SessionKey o x y z) = leaf_of false
-parts_of known (Hash x) = two_of x.0 x.0
-parts_of known (Crypt k x) = choose (row_marked known k.0) (two_of x.0 x.0) (leaf_of false)
-parts_of known (Pair x y) = two_of x.0 y.0
+parts_of known (Agent a) = Leaf true
+parts_of known (Number n) = Leaf true
+parts_of known (Nonce n) = Leaf false
+parts_of known (Prf s x y) = Leaf false
+parts_of known (PublicKey a) = Leaf false
+parts_of known (PrivateKey a) = Leaf false
+parts_of known (SessionKey o x y z) = Leaf false
+parts_of known (Hash x) = Two x.0 x.0
+parts_of known (Crypt k x) = choose (row_marked known k.0) (Two x.0 x.0) (Leaf false)
+parts_of known (Pair x y) = Two x.0 y.0
 
 -- a side that is not below the row is not made
 abbrev pub made_below : (List ℕ → ℕ → Made) → (marks : List ℕ) → (row x : ℕ) → Made
@@ -53,8 +48,8 @@ abbrev pub make_both : (List ℕ → ℕ → Made) → (marks : List ℕ) → (r
 make_both go marks row x y = make_then go row y (made_below go marks row x)
 
 abbrev pub make_with : (List ℕ → ℕ → Made) → (marks : List ℕ) → ℕ → Parts → Made
-make_with go marks row parts =
-    elim parts.leaf [ true ↦ told marks parts.can | false ↦ make_both go marks row parts.left parts.right ]
+make_with go marks row (Leaf can) = told marks can
+make_with go marks row (Two x y) = make_both go marks row x y
 
 -- the number after `known` bounds how deep it goes: any above the row serves
 unfoldable pub make_row : List ℕ → (known : List ℕ) → ℕ → (marks : List ℕ) → ℕ → Made

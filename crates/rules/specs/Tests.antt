@@ -6,7 +6,7 @@ use Rattle.closure.specs.Closure.{row_marked, zeros}
 use Rattle.spy.specs.Made.{made, write_marks}
 use Rattle.forms.specs.Kinds.{crypt_of, public_of, session_of, is_plain}
 use Rattle.forms.specs.Forms.{hello_of, reply_of, kept_of, signed_of, derived_of, verified_of}
-use Rattle.earlier.specs.declared.Heard.{Heard}
+use Rattle.earlier.specs.Heard.{Heard}
 use Rattle.earlier.specs.declared.Wanted.{Wanted}
 use Rattle.earlier.specs.declared.Wanted.TheVariants.{HelloFor, ReplyWith, Cert, Secret, Under}
 use Rattle.earlier.specs.Earlier.{said_by, noted_by}

@@ -6,12 +6,13 @@ mod synth;
 
 ghost use Rattle.std.specs.Prelude.{◌≡◌};
 ghost use Rattle.earlier.specs.Boxes.{found};
+ghost use Rattle.earlier.specs.Earlier.{heard_in};
 ghost use Rattle.rules.specs.Tests as tests;
 ghost use Rattle.rules.specs.Making.{told, try_fake};
 
 use closure::row_marked;
-use earlier::boxes::BOX_ROOM;
-use earlier::{Heard, Wanted};
+use earlier::{Boxes, Wanted};
+use trace::Event;
 use trace::limits::ROW_LIMIT;
 
 const SPY: u16 = 0;
@@ -20,140 +21,130 @@ const SPY: u16 = 0;
 fn is_fresh(file: &[u8], used: &[u8; ROW_LIMIT], r: u16) -> bool
     ensures { result ≡ tests.fresh file.now used.now r }
 {
-    let plain = forms::leaves::is_plain(file, r);
-    let old = row_marked(used, r);
-    plain & !old
+    forms::leaves::is_plain(file, r) && !row_marked(used, r)
 }
 
 // Rule 1: the spy says what it can make. `made` holds rows that it can make, and gets more.
-pub fn fake(file: &[u8], known: &[u8; ROW_LIMIT], made: &mut [u8; ROW_LIMIT], h: Heard) -> bool
+#[tactic(auto, unfolding(crate::specs::Making::try_fake))]
+pub fn fake(file: &[u8], known: &[u8; ROW_LIMIT], made: &mut [u8; ROW_LIMIT], event: Event) -> bool
     ensures { told made.new result ≡
-        try_fake file.now known.now made.old h }
+        try_fake file.now known.now made.old (heard_in event) }
 {
-    if (h.says) & (h.from == SPY) {
-        synth::make(file, known, made, h.row)
-    } else {
-        false
-    }
+    let Event::Says(from, _, row) = event else {
+        return false;
+    };
+    from.0 == SPY && synth::make(file, known, made, row.0)
 }
 
 // Rule 2: the spy notes keys of nonces that it knows.
-pub fn spy_keys(file: &[u8], known: &[u8; ROW_LIMIT], h: Heard) -> bool
-    ensures { result ≡ tests.spy_keys file.now known.now h }
+#[tactic(auto, unfolding(crate::specs::Tests::spy_keys))]
+pub fn spy_keys(file: &[u8], known: &[u8; ROW_LIMIT], event: Event) -> bool
+    ensures { result ≡ tests.spy_keys file.now known.now (heard_in event) }
 {
-    let noted = earlier::noted_by(h, SPY);
-    if noted {
-        let d = forms::spy_keys(file, h.row);
-        let m = row_marked(known, d.m);
-        let na = row_marked(known, d.na);
-        let nb = row_marked(known, d.nb);
-        (d.is) & m & na & nb
-    } else {
-        false
-    }
+    let Event::Notes(by, row) = event else {
+        return false;
+    };
+    let Some(d) = forms::spy_keys(file, row.0) else {
+        return false;
+    };
+    by.0 == SPY && row_marked(known, d.m) && row_marked(known, d.na) && row_marked(known, d.nb)
 }
 
 // Rule 3: CH with a fresh nonce.
-pub fn client_hello(file: &[u8], used: &[u8; ROW_LIMIT], h: Heard) -> bool
-    ensures { result ≡ tests.client_hello file.now used.now h }
+#[tactic(auto, unfolding(crate::specs::Tests::client_hello))]
+pub fn client_hello(file: &[u8], used: &[u8; ROW_LIMIT], event: Event) -> bool
+    ensures { result ≡ tests.client_hello file.now used.now (heard_in event) }
 {
-    if h.says {
-        let m = forms::client_hello(file, h.row);
-        let fresh = is_fresh(file, used, m.na);
-        (m.is) & (m.agent == h.from) & fresh
-    } else {
-        false
-    }
+    let Event::Says(from, _, row) = event else {
+        return false;
+    };
+    let Some(m) = forms::client_hello(file, row.0) else {
+        return false;
+    };
+    m.agent == from.0 && is_fresh(file, used, m.na)
 }
 
 // Rule 4: SH with a fresh nonce, to the agent of a CH.
-pub fn server_hello(file: &[u8], boxes: &[u16; BOX_ROOM], used: &[u8; ROW_LIMIT], h: Heard) -> bool
-    ensures { result ≡ tests.server_hello file.now used.now (found file.now boxes.now) h }
+#[tactic(auto, unfolding(crate::specs::Tests::server_hello))]
+pub fn server_hello(file: &[u8], boxes: &Boxes, used: &[u8; ROW_LIMIT], event: Event) -> bool
+    ensures { result ≡ tests.server_hello file.now used.now (found file.now boxes.now) (heard_in event) }
 {
-    if h.says {
-        let m = forms::server_hello(file, h.row);
-        let fresh = is_fresh(file, used, m.nb);
-        if (m.is) & fresh {
-            earlier::happened(file, boxes, Wanted::HelloFor(h.from, h.to, m.sid))
-        } else {
-            false
-        }
-    } else {
-        false
-    }
+    let Event::Says(from, to, row) = event else {
+        return false;
+    };
+    let Some(m) = forms::server_hello(file, row.0) else {
+        return false;
+    };
+    is_fresh(file, used, m.nb)
+        && earlier::happened(file, boxes, Wanted::HelloFor(from.0, to.0, m.sid))
 }
 
 // Rule 5: an agent's certificate of its public key.
-pub fn certificate(file: &[u8], h: Heard) -> bool
-    ensures { result ≡ tests.certificate file.now h }
+#[tactic(auto, unfolding(crate::specs::Tests::certificate))]
+pub fn certificate(file: &[u8], event: Event) -> bool
+    ensures { result ≡ tests.certificate file.now (heard_in event) }
 {
-    if h.says {
-        let m = forms::certificate(file, h.row);
-        let k = forms::leaves::public_of(file, m.key);
-        (m.is) & (m.agent == h.from) & (k.is) & (k.first == h.from)
-    } else {
-        false
-    }
+    let Event::Says(from, _, row) = event else {
+        return false;
+    };
+    let Some(m) = forms::certificate(file, row.0) else {
+        return false;
+    };
+    m.agent == from.0 && forms::leaves::public_of(file, m.key) == Some(from.0)
 }
 
 // Rule 6: a fresh secret noted, and then sent under the key of a certificate.
+#[tactic(auto, unfolding(crate::specs::Tests::key_exchange))]
 pub fn key_exchange(
     file: &[u8],
-    boxes: &[u16; BOX_ROOM],
+    boxes: &Boxes,
     used: &[u8; ROW_LIMIT],
-    note: Heard,
-    said: Heard,
+    note: Event,
+    said: Event,
 ) -> bool
-    ensures { result ≡ tests.key_exchange file.now used.now (found file.now boxes.now) note said }
+    ensures { result ≡
+        tests.key_exchange file.now used.now (found file.now boxes.now) (heard_in note) (heard_in said) }
 {
-    if note.says {
-        false
-    } else {
-        let k = forms::secret_note(file, note.row);
-        let fresh = is_fresh(file, used, k.secret);
-        let sent = earlier::said_by(said, note.from, k.agent);
-        let c = forms::leaves::crypt_of(file, said.row);
-        if (k.is) & fresh & sent & (c.is) & (c.second == k.secret) {
-            earlier::happened(file, boxes, Wanted::Cert(note.from, k.agent, c.first))
-        } else {
-            false
-        }
-    }
+    let (Event::Notes(by, noted), Event::Says(from, to, row)) = (note, said) else {
+        return false;
+    };
+    let Some(k) = forms::secret_note(file, noted.0) else {
+        return false;
+    };
+    let Some(c) = forms::leaves::crypt_of(file, row.0) else {
+        return false;
+    };
+    let fresh = is_fresh(file, used, k.secret);
+    let sent = from == by && to.0 == k.agent && c.body == k.secret;
+    fresh && sent && earlier::happened(file, boxes, Wanted::Cert(by.0, k.agent, c.key))
 }
 
 // Rule 7: the nonce of an SH and a secret of one's own, signed.
-pub fn cert_verify(file: &[u8], boxes: &[u16; BOX_ROOM], h: Heard) -> bool
-    ensures { result ≡ tests.cert_verify file.now (found file.now boxes.now) h }
+#[tactic(auto, unfolding(crate::specs::Tests::cert_verify))]
+pub fn cert_verify(file: &[u8], boxes: &Boxes, event: Event) -> bool
+    ensures { result ≡ tests.cert_verify file.now (found file.now boxes.now) (heard_in event) }
 {
-    if h.says {
-        let m = forms::cert_verify(file, h.row);
-        if (m.is) & (m.signer == h.from) & (m.agent == h.to) {
-            let replied = earlier::happened(file, boxes, Wanted::ReplyWith(h.from, m.nb));
-            if replied {
-                earlier::happened(file, boxes, Wanted::Secret(h.from, h.to, m.secret))
-            } else {
-                false
-            }
-        } else {
-            false
-        }
-    } else {
-        false
-    }
+    let Event::Says(from, to, row) = event else {
+        return false;
+    };
+    let Some(m) = forms::cert_verify(file, row.0) else {
+        return false;
+    };
+    m.signer == from.0
+        && m.agent == to.0
+        && earlier::happened(file, boxes, Wanted::ReplyWith(from.0, m.nb))
+        && earlier::happened(file, boxes, Wanted::Secret(from.0, to.0, m.secret))
 }
 
 // Rule 14: a session key that one spoke under, lost to the spy.
-pub fn oops(file: &[u8], boxes: &[u16; BOX_ROOM], h: Heard) -> bool
-    ensures { result ≡ tests.oops file.now (found file.now boxes.now) h }
+#[tactic(auto, unfolding(crate::specs::Tests::oops))]
+pub fn oops(file: &[u8], boxes: &Boxes, event: Event) -> bool
+    ensures { result ≡ tests.oops file.now (found file.now boxes.now) (heard_in event) }
 {
-    if (h.says) & (h.to == SPY) {
-        let k = forms::leaves::session_of(file, h.row);
-        if k.is {
-            earlier::happened(file, boxes, Wanted::Under(h.from, h.row))
-        } else {
-            false
-        }
-    } else {
-        false
-    }
+    let Event::Says(from, to, row) = event else {
+        return false;
+    };
+    to.0 == SPY
+        && forms::leaves::session_of(file, row.0).is_some()
+        && earlier::happened(file, boxes, Wanted::Under(from.0, row.0))
 }

@@ -26,10 +26,9 @@ use Rattle.spy.specs.Reply.{marks_after, answer_readable, bytes_readable}
 use Rattle.spy.specs.Promises.{OneAnswer, Line, told, eight, nine, Refuses}
 use Rattle.spy.specs.declared.Answer.{Answer}
 use Rattle.spy.specs.declared.Answer.TheVariants.{Refused}
-use Rattle.spy.proofs.Sweep.{marks_length}
 use Rattle.closure.proofs.Exact.{marks_analysed}
 use Rattle.closure.proofs.Starting.{good_after}
-use Rattle.spy.proofs.Makes.{marks_right, marks_rest}
+use Rattle.spy.proofs.Makes.{marks_length, marks_right, marks_rest}
 
 -- the marks, for a file that is not refused
 marks_after_lem : (file : List ℕ) → Promised file → (n : ℕ) → n ≤ events_of file → (before : List ℕ) → rows_of file ≤ length before →

@@ -7,7 +7,7 @@ use mathlib.Core.Logic.{◌⊎◌, inl, inr}
 use mathlib.Core.Path.{◌≡◌, refl, sym, ◌∙◌}
 use native.Mathlib.Omega.{arith}
 use lib.Dec.{ltb}
-use lib.ListN.{length, get_or, set}
+use lib.ListN.{length, get_or, set, length-set}
 use lib.Seq.{get_or-set_same, get_or-set_other}
 use Rattle.paper.specs.Message as paper
 use Rattle.paper.specs.Spy as spy
@@ -24,7 +24,11 @@ use Rattle.spy.specs.Made.{made, makes, mark_of, write_marks}
 use Rattle.spy.specs.Knowledge as question
 use Rattle.spy.specs.Knowledge.{Mark, analysed, neither}
 use Rattle.closure.proofs.Marks.{Marked}
-use Rattle.spy.proofs.Sweep.{marks_length}
+
+pub marks_length : (file rows : List ℕ) (n : ℕ) (marks : List ℕ) → length (write_marks file rows n marks) ≡ length marks
+unfolding write_marks
+marks_length file rows zero marks = refl
+marks_length file rows (suc n) marks = length-set (write_marks file rows n marks) n _ ∙ marks_length file rows n marks
 
 module _ (file : List ℕ) (P : Promised file) (H : paper.msg → Type 0) (rows : List ℕ)
     (sound : (x : ℕ) → x < rows_of file → Marked rows x → Analz H (message file x))

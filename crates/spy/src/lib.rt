@@ -4,13 +4,11 @@
 pub mod made;
 
 ghost use Rattle.std.specs.Prelude.{◌≡◌};
-ghost use Rattle.trace.specs.File.{row_limit};
-ghost use Rattle.closure.specs.Closure.{key_room, known_after, zeros};
+ghost use Rattle.closure.specs.Closure.{known_after};
 ghost use Rattle.spy.specs.Knowledge.{Knows};
 ghost use Rattle.spy.specs.Reply.{marks_after, answer_readable, bytes_readable};
 
-use closure::KEYS;
-use trace::limits::ROW_LIMIT;
+use closure::Known;
 use trace::{Cause, EventNo, Reading};
 
 #[derive(Clone, Copy)]
@@ -19,29 +17,24 @@ pub enum Answer {
     Written,
 }
 
-// What is known after the first n events, in arrays of zeros.
-fn know(file: &[u8], rows: &mut [u8; ROW_LIMIT], keys: &mut [u8; KEYS], n: u16)
-    requires no_rows { rows.old ≡ zeros row_limit }
-    requires no_keys { keys.old ≡ zeros key_room }
-    ensures rows_after { rows.new ≡ (known_after file.now n).rows }
-    ensures keys_after { keys.new ≡ (known_after file.now n).keys }
+// What is known after the first n events.
+#[tactic(auto, using(closure::proofs::Folds::known_more))]
+fn know(file: &[u8], n: u16) -> Known
+    ensures { result ≡ known_after file.now n }
 {
-    closure::start(file, rows, keys);
-    let mut e: u16 = 0;
-    while e < n {
-        closure::see_event(file, rows, keys, EventNo(e));
-        e += 1;
+    let mut known = Known::start(file);
+    for e in 0..n {
+        known.see_event(file, EventNo(e));
     }
+    known
 }
 
 // A mark for each row after the first n events.
 fn write(file: &[u8], n: u16, buffer: &mut [u8])
     ensures { buffer.new ≡ marks_after file.now n buffer.old }
 {
-    let mut rows = [0u8; ROW_LIMIT];
-    let mut keys = [0u8; KEYS];
-    know(file, &mut rows, &mut keys, n);
-    made::write_marks(file, &rows, buffer, trace::row_count(file));
+    let known = know(file, n);
+    made::write_marks(file, &known.rows, buffer, trace::row_count(file));
 }
 
 // The question, for a file that is readable.
