@@ -18,6 +18,7 @@ use Rattle.trace.specs.declared.Event.{Event}
 use Rattle.trace.specs.declared.Event.TheVariants.{Says, Notes}
 use Rattle.laws.proofs.Both.{both}
 use Rattle.spy.specs.Made.{made, makes, write_marks}
+use Rattle.closure.specs.declared.Known.{Known}
 use Rattle.closure.specs.Closure.{State, row_marked, sides_of, below, both_sides, learn_row, reopens, reopen_row, up_rows, down_rows, pass_rows, settle, see_row, see_event}
 use Rattle.rules.specs.Tests.{can_make}
 use Rattle.rules.specs.Making.{Kept}
@@ -102,7 +103,7 @@ module _ (file : List ℕ) where
 
   pub see_kept : (rs ks : List ℕ) (E : Event) → Kept rs (see_event file rs ks E).rows
   see_kept rs ks (Says a b r) = row_kept rs ks r.0
-  see_kept rs ks (Notes a r) = either_kept rows_in _ (compromised_in file a.0) _ _ (row_kept rs ks r.0) (λ x m. m)
+  see_kept rs ks (Notes a r) = either_kept (λ (s : Known). s.rows) _ (compromised_in file a.0) _ _ (row_kept rs ks r.0) (λ x m. m)
 
 -- more is known: more can be made
 module _ (file known known' : List ℕ) (kept : Kept known known') where

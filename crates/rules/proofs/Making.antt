@@ -22,7 +22,7 @@ use Rattle.laws.proofs.Both.{both}
 use Rattle.laws.proofs.First.{lt_suc}
 use Rattle.closure.specs.Closure.{row_marked, zeros}
 use Rattle.spy.specs.Made.{made, makes, mark_of, write_marks}
-use Rattle.spy.proofs.Sweep.{marks_length}
+use Rattle.spy.proofs.Makes.{marks_length}
 use Rattle.rules.specs.declared.synth.Parts.{Parts}
 use Rattle.rules.specs.declared.synth.Parts.TheVariants.{Leaf, Two}
 use Rattle.rules.specs.Tests.{can_make}
