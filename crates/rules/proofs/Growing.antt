@@ -6,9 +6,10 @@ use mathlib.Core.List.{List}
 use mathlib.Core.Path.{◌≡◌, refl, sym, ◌∙◌}
 use native.Mathlib.Omega.{arith}
 use native.Mathlib.Decide.{ℕ_discrete, dec_lt}
-use lib.Dec.{eqb, ltb, leb}
-use lib.ListN.{length, get_or, set}
-use lib.Seq.{get_or-set_same, get_or-set_other, set_out}
+use lib.Dec.{ltb, leb}
+use lib.ListN.{set}
+use Rattle.std.proofs.lemmas.Grind.{common_steps}
+use Rattle.std.proofs.lemmas.Bool.Decides.{nat_tests}
 use Rattle.trace.specs.File.{row_limit, rows_of, compromised_in}
 use Rattle.laws.specs.Choose.{choose}
 use Rattle.trace.specs.Kinds.{row_at}
@@ -27,14 +28,7 @@ use Rattle.rules.proofs.Making.{swept, swept_here, swept_other, far_not_made}
 
 -- a store of a mark loses none
 pub set_kept : (rs : List ℕ) (r : ℕ) → Kept rs (set rs r 1)
-set_kept rs r x m = go (ℕ_discrete x r) (dec_lt r (length rs))
-  where
-    go : Dec (x ≡ r) → Dec (r < length rs) → row_marked (set rs r 1) x ≡ true
-    go (no d) _ = rw (get_or-set_other rs r x 1 0 d) m
-    go (yes e) (no l) = rw (set_out rs r 1 (omega arith)) m
-    go (yes e) (yes l) =
-        let b = both (ltb x row_limit) (eqb (get_or rs x 0) 1) m in
-        rw (b.0, e, get_or-set_same rs r 1 0 l) refl
+set_kept rs r x m = grind (arith, common_steps, nat_tests)
 
 -- whichever way a test goes
 either_kept : {A : Type 0} (rows : A → List ℕ) (rs : List ℕ) (b : Bool) (s t : A) → Kept rs (rows s) → Kept rs (rows t) →
