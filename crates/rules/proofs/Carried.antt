@@ -5,12 +5,12 @@ use mathlib.Core.Bool.{Bool, true, false, ◌&&◌, ◌||◌, true≢false}
 use mathlib.Core.List.{List}
 use mathlib.Core.Path.{◌≡◌, refl, sym, ◌∙◌, ap, subst}
 use native.Mathlib.Omega.{arith}
-use native.Mathlib.Decide.{ℕ_discrete}
 use lib.Dec.{eqb, ltb, leb}
 use lib.ListN.{set}
-use lib.Seq.{get_or-set_other}
 use borrow.Author.Tests.{ltb-true, leb-true}
 use Rattle.std.proofs.lemmas.Bool.{leb-false}
+use Rattle.std.proofs.lemmas.Grind.{common_steps}
+use Rattle.std.proofs.lemmas.Bool.Decides.{nat_tests}
 use Rattle.trace.specs.File.{row_limit}
 use Rattle.trace.specs.Kinds.{row_at}
 use Rattle.earlier.specs.Heard.{Heard}
@@ -31,11 +31,7 @@ module _ (file known : List ℕ) where
   none_sound x m = absurd (none_marked row_limit x m)
 
   set_sound : (ms : List ℕ) (r : ℕ) → can_make file known r ≡ true → SoundMarks file known ms → SoundMarks file known (set ms r 1)
-  set_sound ms r c s x m = go (ℕ_discrete x r)
-    where
-      go : Dec (x ≡ r) → can_make file known x ≡ true
-      go (yes e) = rw e c
-      go (no d) = s x (rw (get_or-set_other ms r x 1 0 d) at m)
+  set_sound ms r c s x m = grind (arith, common_steps, nat_tests, s x)
 
   module _ (row : ℕ) (go : List ℕ → ℕ → Made)
       (right : (ms : List ℕ) (x : ℕ) → x < row → SoundMarks file known ms → Right (go ms x) (can_make file known x)) where
