@@ -5,9 +5,9 @@ use mathlib.Core.Bool.{Bool, true, false, ◌&&◌, ◌||◌, true≢false}
 use mathlib.Core.List.{List}
 use mathlib.Core.Path.{◌≡◌, refl, sym, ◌∙◌, ap, subst}
 use native.Mathlib.Omega.{arith}
-use lib.Dec.{eqb, ltb, leb}
+use lib.Dec.{eqb, leb}
 use lib.ListN.{set}
-use borrow.Author.Tests.{ltb-true, leb-true}
+use borrow.Author.Tests.{leb-true}
 use Rattle.std.proofs.lemmas.Bool.{leb-false}
 use Rattle.std.proofs.lemmas.Grind.{common_steps}
 use Rattle.std.proofs.lemmas.Bool.Decides.{nat_tests}
@@ -36,12 +36,7 @@ module _ (file known : List ℕ) where
   module _ (row : ℕ) (go : List ℕ → ℕ → Made)
       (right : (ms : List ℕ) (x : ℕ) → x < row → SoundMarks file known ms → Right (go ms x) (can_make file known x)) where
     below_right : (ms : List ℕ) (x : ℕ) → SoundMarks file known ms → Right (made_below go ms row x) (can_below file known row x)
-    below_right ms x s = by_test (ltb x row) refl
-      where
-        by_test : (b : Bool) → ltb x row ≡ b →
-            Right (elim b as (λ _. Made) [ true ↦ go ms x | false ↦ told ms false ]) (b && can_make file known x)
-        by_test true e = right ms x (ltb-true x row e) s
-        by_test false e = (refl, s)
+    below_right ms x s = grind (arith, nat_tests, right ms x)
 
     last_right : (r : Made) (b : Bool) → (b ≡ true → can_make file known row ≡ true) → Right r b → Right (made_last row r) b
     last_right r b c q = by_test r.is b c q
