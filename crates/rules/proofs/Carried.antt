@@ -1,16 +1,16 @@
 -- The question with marks: where each marked row can be made, the answer is the definition's, and each marked row can be made again.
 -- Assumes nothing.
 use Prim.Native.Nat.{ℕ, zero, suc, ◌<◌}
-use mathlib.Core.Bool.{Bool, true, false, ◌&&◌, ◌||◌, true≢false}
+use mathlib.Core.Bool.{Bool, true, false, ◌&&◌, ◌||◌}
 use mathlib.Core.List.{List}
 use mathlib.Core.Path.{◌≡◌, refl, sym, ◌∙◌, ap, subst}
 use native.Mathlib.Omega.{arith}
-use native.Mathlib.Decide.{ℕ_discrete}
-use lib.Dec.{eqb, ltb, leb}
+use lib.Dec.{leb}
 use lib.ListN.{set}
-use lib.Seq.{get_or-set_other}
-use borrow.Author.Tests.{ltb-true, leb-true}
+use borrow.Author.Tests.{leb-true}
 use Rattle.std.proofs.lemmas.Bool.{leb-false}
+use Rattle.std.proofs.lemmas.Grind.{common_steps}
+use Rattle.std.proofs.lemmas.Bool.Decides.{nat_tests}
 use Rattle.trace.specs.File.{row_limit}
 use Rattle.trace.specs.Kinds.{row_at}
 use Rattle.earlier.specs.Heard.{Heard}
@@ -31,29 +31,15 @@ module _ (file known : List ℕ) where
   none_sound x m = absurd (none_marked row_limit x m)
 
   set_sound : (ms : List ℕ) (r : ℕ) → can_make file known r ≡ true → SoundMarks file known ms → SoundMarks file known (set ms r 1)
-  set_sound ms r c s x m = go (ℕ_discrete x r)
-    where
-      go : Dec (x ≡ r) → can_make file known x ≡ true
-      go (yes e) = rw e c
-      go (no d) = s x (rw (get_or-set_other ms r x 1 0 d) at m)
+  set_sound ms r c s x m = grind (arith, common_steps, nat_tests, s x)
 
   module _ (row : ℕ) (go : List ℕ → ℕ → Made)
       (right : (ms : List ℕ) (x : ℕ) → x < row → SoundMarks file known ms → Right (go ms x) (can_make file known x)) where
     below_right : (ms : List ℕ) (x : ℕ) → SoundMarks file known ms → Right (made_below go ms row x) (can_below file known row x)
-    below_right ms x s = by_test (ltb x row) refl
-      where
-        by_test : (b : Bool) → ltb x row ≡ b →
-            Right (elim b as (λ _. Made) [ true ↦ go ms x | false ↦ told ms false ]) (b && can_make file known x)
-        by_test true e = right ms x (ltb-true x row e) s
-        by_test false e = (refl, s)
+    below_right ms x s = grind (arith, nat_tests, right ms x)
 
     last_right : (r : Made) (b : Bool) → (b ≡ true → can_make file known row ≡ true) → Right r b → Right (made_last row r) b
-    last_right r b c q = by_test r.is b c q
-      where
-        by_test : (i b : Bool) → (b ≡ true → can_make file known row ≡ true) → (i ≡ b) × SoundMarks file known r.marks →
-            Right (elim i as (λ _. Made) [ true ↦ told (set r.marks row 1) true | false ↦ told r.marks false ]) b
-        by_test true b c q = (q.0, set_sound r.marks row (c (sym q.0)) q.1)
-        by_test false b c q = q
+    last_right r b c q = grind (arith, set_sound r.marks row)
 
     both_right : (ms : List ℕ) (x y : ℕ) → (can_below file known row x && can_below file known row y ≡ true → can_make file known row ≡ true) →
         SoundMarks file known ms → Right (make_both go ms row x y) (can_below file known row x && can_below file known row y)
@@ -61,15 +47,7 @@ module _ (file known : List ℕ) where
         let l = made_below go ms row x in
         let q = below_right ms x s in
         let r = below_right l.marks y q.1 in
-        by_test l.is (can_below file known row x) (can_below file known row y) c l.marks (made_below go l.marks row y) q r
-      where
-        by_test : (i a b : Bool) → ((a && b) ≡ true → can_make file known row ≡ true) → (ls : List ℕ) (r : Made) →
-            (i ≡ a) × SoundMarks file known ls → Right r b →
-            Right (elim i as (λ _. Made) [ true ↦ made_last row r | false ↦ told ls false ]) (a && b)
-        by_test true true b c ls r q h = last_right r b c h
-        by_test true false b c ls r q h = absurd (true≢false q.0)
-        by_test false true b c ls r q h = absurd (true≢false (sym q.0))
-        by_test false false b c ls r q h = (refl, q.1)
+        grind (arith, last_right (made_below go l.marks row y) (can_below file known row y))
 
     with_right : (ms : List ℕ) (p : Parts) → (can_of file known row p ≡ true → can_make file known row ≡ true) →
         SoundMarks file known ms → Right (make_with go ms row p) (can_of file known row p)
@@ -105,12 +83,7 @@ module _ (file known : List ℕ) where
   -- rule 1
   pub fake_right : (ms : List ℕ) (h : Heard) → SoundMarks file known ms → Right (try_fake file known ms h) (fake file known h)
   unfolding try_fake fake
-  fake_right ms h s = by_test (h.says && eqb h.from 0)
-    where
-      by_test : (b : Bool) →
-          Right (elim b as (λ _. Made) [ true ↦ make_row file known (suc h.row) ms h.row | false ↦ told ms false ]) (b && can_make file known h.row)
-      by_test true = make_right (suc h.row) ms h.row (omega arith) s
-      by_test false = (refl, s)
+  fake_right ms h s = grind (arith, make_right (suc h.row) ms h.row)
 
   -- of an equation as the contract has it
   pub tried : (ms : List ℕ) (h : Heard) {ms' : List ℕ} {b : Bool} → SoundMarks file known ms → told ms' b ≡ try_fake file known ms h →
