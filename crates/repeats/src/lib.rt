@@ -1,7 +1,7 @@
 // Rows that equal an earlier one: refusal 6.
 #![tactic(auto)]
 
-ghost use Rattle.std.specs.Prelude.{◌≡◌, ◌≤◌, ◌<◌, ◌+◌, ◌↔◌, get_or, IsTrue};
+ghost use Rattle.std.specs.Prelude.{false, ◌≡◌, ◌≤◌, ◌<◌, ◌+◌, ◌↔◌, get_or, IsTrue};
 ghost use Rattle.trace.specs.File.{row_limit};
 ghost use Rattle.trace.specs.Rows.{fields_at};
 ghost use Rattle.trace.specs.Tests.{repeated_row};
@@ -52,11 +52,12 @@ impl Chains {
         self.tags[usize::from(row)] == tag(f) && fields_at(file, row) == f
     }
 
-    // Whether row r equals one of the rows below it, which are chained.
-    fn repeats(&self, file: &[u8], r: u16) -> bool
-        requires in_range { r ≤ row_limit }
-        requires chained { Chained file.now self.now r }
-        ensures { result ≡ repeated_row file.now r }
+    // Whether row r equals one of the rows below it, which are chained. If it does not, it is chained too.
+    fn add(&mut self, file: &[u8], r: u16) -> bool
+        requires in_range { r < row_limit }
+        requires chained { Chained file.now self.old r }
+        ensures repeated { result ≡ repeated_row file.now r }
+        ensures chained { result ≡ false → Chained file.now self.new (r + 1) }
     {
         let f = fields_at(file, r);
         let h = bucket(f);
@@ -67,21 +68,11 @@ impl Chains {
             }
             link = self.nexts[usize::from(row)];
         }
-        false
-    }
-
-    // Puts row r in front of its bucket's chain.
-    fn add(&mut self, file: &[u8], r: u16)
-        requires in_range { r < row_limit }
-        requires chained { Chained file.now self.old r }
-        ensures { Chained file.now self.new (r + 1) }
-    {
-        let f = fields_at(file, r);
-        let h = bucket(f);
         let at = usize::from(r);
         self.tags[at] = tag(f);
         self.nexts[at] = self.heads[h];
         self.heads[h] = r + 1;
+        false
     }
 }
 
@@ -96,10 +87,9 @@ fn first_repeat(file: &[u8], rows: u16) -> Option<u16>
         tags: [0; ROW_LIMIT],
     };
     for r in 0..rows {
-        if chains.repeats(file, r) {
+        if chains.add(file, r) {
             return Some(r);
         }
-        chains.add(file, r);
     }
     None
 }

@@ -12,12 +12,15 @@ loop-r-init c = record { chained = chained_none _; none = below_none _ }
 pub loop-r-preserved : goal.loop-r-preserved
 loop-r-preserved c =
     let l = c.loop-r in
-    record { chained = c.add.ensures; none = below_more _ _ l.invariant.none (sym c.repeats.ensures ∙ c.if-repeats.false) }
+    record {
+      chained = c.add.ensures.chained c.if-add.false;
+      none = below_more _ _ l.invariant.none (sym c.add.ensures.repeated ∙ c.if-add.false);
+    }
 
-pub returns-then-repeats : goal.returns-then-repeats
-returns-then-repeats c =
+pub returns-then-add : goal.returns-then-add
+returns-then-add c =
     let l = c.loop-r in
-    sym (found_some _ c.args.rows l.r (omega arith) l.invariant.none (sym c.repeats.ensures ∙ c.if-repeats.true))
+    sym (found_some _ c.args.rows l.r (omega arith) l.invariant.none (sym c.add.ensures.repeated ∙ c.if-add.true))
 
 pub returns : goal.returns
 returns c = sym (found_none _ c.args.rows (λ k l. c.loop-r.invariant.none k (omega arith)))

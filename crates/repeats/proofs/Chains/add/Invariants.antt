@@ -1,9 +1,9 @@
--- `repeats::Chains::repeats` meets its contract: a row of the chain that has the fields of row r is still ahead.
+-- `repeats::Chains::add` meets its contract: a row of the chain that has the fields of row r is still ahead.
 -- Links fall, so the loop ends. Assumes nothing.
 use Rattle.std.proofs.Common.{◌≡◌, ◌≤◌, ℕ, get_or}
 use Rattle.trace.specs.Rows.{fields_at}
 use Rattle.repeats.specs.Chain.{Reach}
-use Rattle.repeats.proofs.Chains.repeats.Given as goal
+use Rattle.repeats.proofs.Chains.add.Given as goal
 
 abbrev pub invariant-loop-row : goal.invariant-loop-row
 invariant-loop-row l =
