@@ -162,16 +162,10 @@ fn search(file: &[u8], boxes: &Boxes, wanted: Wanted, head: u16) -> bool
 }
 
 // The same in the boxes of all receivers.
-#[tactic(auto, using(laws::proofs::First::any_none))]
 fn search_all(file: &[u8], boxes: &Boxes, wanted: Wanted) -> bool
     ensures { result ≡ any (found_in file.now boxes.now wanted) agent_limit }
 {
-    for b in 0..AGENT_LIMIT {
-        if search(file, boxes, wanted, boxes.heads[b]) {
-            return true;
-        }
-    }
-    false
+    (0..AGENT_LIMIT).any(|b| search(file, boxes, wanted, boxes.heads[b]))
 }
 
 // Whether some earlier event is what is wanted.
