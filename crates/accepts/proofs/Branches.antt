@@ -1,8 +1,8 @@
 -- What the branches of the tests need: the order of tests does not matter.
 -- Assumes nothing.
-use mathlib.Core.Bool.{Bool, true, false, ◌&&◌, ◌||◌}
-use mathlib.Core.Path.{◌≡◌, refl, sym, ◌∙◌, ap}
-use Rattle.laws.proofs.Both.{and_true, and_false, or_none}
+use mathlib.Core.Bool.{Bool, true, false, ◌&&◌}
+use mathlib.Core.Path.{◌≡◌, refl}
+use Rattle.laws.proofs.Both.{and_true, and_false}
 
 -- the hash is tested last
 pub hash_last : (a b q c : Bool) → (a && (b && q && c)) ≡ ((a && (b && c)) && q)
