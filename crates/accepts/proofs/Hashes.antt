@@ -13,7 +13,7 @@ use borrow.Author.Tests.{lt-ltb, le-ltb, eq-eqb, eqb-true}
 use Rattle.trace.specs.File.{row_limit, agent_limit}
 use Rattle.laws.specs.First.{any}
 use Rattle.laws.specs.Choose.{choose}
-use Rattle.laws.proofs.Both.{both, refuted, or_true, or_none, and_true, and_false}
+use Rattle.laws.proofs.Both.{both, refuted, or_true, or_none, or_assoc, and_true, and_false}
 use Rattle.forms.specs.Kinds.{server_in}
 use Rattle.forms.specs.Forms.{sealed_of}
 use Rattle.closure.specs.Closure.{row_marked, mark_row, zeros}
@@ -22,15 +22,15 @@ use Rattle.forms.proofs.Keyed.{hash_row}
 use Rattle.earlier.specs.declared.boxes.Boxes.{Boxes}
 use Rattle.earlier.specs.Heard.{Heard}
 use Rattle.earlier.specs.Earlier.{heard_at, said_to, said_by}
-use Rattle.earlier.specs.Boxes.{latest_to, next, chain_from, some}
+use Rattle.earlier.specs.Boxes.{latest_to, chain_from, some}
 use Rattle.earlier.specs.Kept.{seal_mark, seal_at, Boxed}
-use Rattle.earlier.proofs.Chains.{Below, none, more, chain_step, chain_end, chain_below, some_same}
+use Rattle.earlier.proofs.Chains.{Below, none, more, chain_below, some_same}
 use Rattle.earlier.proofs.Finding.{said_box, by_box, chain_any}
 use Rattle.accepts.specs.declared.Session.{Session}
 use Rattle.accepts.specs.declared.Side.{Side}
 use Rattle.accepts.specs.Tests.{said_finished, told_finished, both_finished}
 use Rattle.accepts.specs.Hashes.{told_here, mark_event, mark_all, answered_in, agreed_in, both_in}
-use Rattle.accepts.proofs.Branches.{or_assoc, hash_last}
+use Rattle.accepts.proofs.Branches.{hash_last}
 use Rattle.accepts.proofs.Accepts.{both8}
 
 -- one event's mark

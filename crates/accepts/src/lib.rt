@@ -77,21 +77,14 @@ fn said_finished(file: &[u8], event: Event, by: Side, s: Session) -> bool
 }
 
 // The hash of the Finished of that role is marked, if event j tells one to this agent.
-fn mark_event(
-    file: &[u8],
-    boxes: &Boxes,
-    marks: &mut [u8; ROW_LIMIT],
-    j: u16,
-    role: Role,
-    to: u16,
-)
+fn mark_event(file: &[u8], boxes: &Boxes, marks: &mut [u8; ROW_LIMIT], j: u16, role: Role, to: u16)
     ensures { marks.new ≡ mark_event file.now boxes.now (server_in role) to j marks.old }
 {
-    let event = trace::event_at(file, EventNo(j));
-    let seal = sealed(boxes, role, j);
-    let said = matches!(event, Event::Says(_, receiver, _) if receiver.0 == to);
-    if said && 0 < seal {
-        closure::put(marks, usize::from(seal - 1), 1);
+    if !earlier::said_to(trace::event_at(file, EventNo(j)), to) {
+        return;
+    }
+    if let Some(hash) = sealed(boxes, role, j) {
+        closure::put(marks, usize::from(hash), 1);
     }
 }
 
@@ -141,8 +134,7 @@ fn agreed_at(
     let Event::Says(from, to, row) = event else {
         return false;
     };
-    let seal = sealed(boxes, by.role, i);
-    if from.0 != by.from || to.0 != by.to || seal == 0 {
+    if from.0 != by.from || to.0 != by.to || sealed(boxes, by.role, i).is_none() {
         return false;
     }
     let Some(c) = forms::leaves::crypt_of(file, row.0) else {

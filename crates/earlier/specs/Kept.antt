@@ -1,5 +1,6 @@
 -- What is kept of each event: its place in its box, the hash of its Finished, its card. No promise cites this file.
-use Rattle.std.specs.Prelude.{ℕ, suc, ◌+◌, ◌-◌, ◌*◌, ◌%◌, ◌<◌, ◌≤◌, Bool, true, false, ◌&&◌, not, List, ◌≡◌, ltb, length, get_or, set, replicate}
+use Rattle.std.specs.Prelude.{ℕ, suc, ◌+◌, ◌-◌, ◌*◌, ◌%◌, ◌<◌, ◌≤◌, Bool, true, false, ◌&&◌, not, List, Option, ◌≡◌, ltb, length, get_or, set, replicate}
+use Rattle.std.specs.Bool.{then_some}
 use Rattle.trace.specs.File.{row_limit, event_limit}
 use Rattle.laws.specs.Choose.{choose}
 use Rattle.forms.specs.Forms.{sealed_of}
@@ -37,6 +38,10 @@ seal_mark file server r =
 
 abbrev pub seal_at : Boxes → Bool → ℕ → ℕ
 seal_at boxes server e = choose (ltb e event_limit) (get_or (choose server boxes.servers boxes.clients) e 0) 0
+
+-- as it is read back: the row of the hash, if there is one
+abbrev pub sealed_at : Boxes → Bool → ℕ → Option ℕ
+sealed_at boxes server e = then_some (ltb 0 (seal_at boxes server e)) (seal_at boxes server e - 1)
 
 -- event e in front of its box, unless it is known that one that equals it is kept
 abbrev pub boxed_in : List ℕ → Boxes → ℕ → Boxes

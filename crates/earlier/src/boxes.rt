@@ -11,7 +11,7 @@ ghost use Rattle.forms.specs.Kinds.{server_in};
 ghost use Rattle.earlier.specs.Earlier.{heard_in, heard_at};
 ghost use Rattle.earlier.specs.Boxes.{box_count, slot_count, box_of, box_for, latest_to, next, chain_from, rest_of, some, fits_at, found_in, found};
 ghost use Rattle.std.specs.Iterator.{YieldsFirst, item_count};
-ghost use Rattle.earlier.specs.Kept.{none_kept, slot_of, is_again, seal_mark, seal_at, boxed_in, kept_in};
+ghost use Rattle.earlier.specs.Kept.{none_kept, slot_of, is_again, seal_mark, sealed_at, boxed_in, kept_in};
 
 use super::cards::Card;
 use super::{Wanted, cards};
@@ -96,10 +96,7 @@ fn latest_to(boxes: &Boxes, to: u16) -> u16
 fn next(boxes: &Boxes, link: u16) -> u16
     ensures { result ≡ next boxes.now link }
 {
-    if EVENTS < link {
-        return 0;
-    }
-    if link == 0 {
+    if link == 0 || EVENTS < link {
         return 0;
     }
     let l = boxes.links[usize::from(link - 1)];
@@ -162,16 +159,10 @@ fn search(file: &[u8], boxes: &Boxes, wanted: Wanted, head: u16) -> bool
 }
 
 // The same in the boxes of all receivers.
-#[tactic(auto, using(laws::proofs::First::any_none))]
 fn search_all(file: &[u8], boxes: &Boxes, wanted: Wanted) -> bool
     ensures { result ≡ any (found_in file.now boxes.now wanted) agent_limit }
 {
-    for b in 0..AGENT_LIMIT {
-        if search(file, boxes, wanted, boxes.heads[b]) {
-            return true;
-        }
-    }
-    false
+    (0..AGENT_LIMIT).any(|b| search(file, boxes, wanted, boxes.heads[b]))
 }
 
 // Whether some earlier event is what is wanted.
@@ -216,17 +207,15 @@ fn seals_of(file: &[u8], r: u16) -> (u16, u16)
     }
 }
 
-// What `seals_of` said of an event's row when it was kept.
-pub fn sealed(boxes: &Boxes, role: Role, e: u16) -> u16
-    ensures { result ≡ seal_at boxes.now (server_in role) e }
+// The row of the hash of an event's Finished, if its message was one of that role when it was kept.
+pub fn sealed(boxes: &Boxes, role: Role, e: u16) -> Option<u16>
+    ensures { result ≡ sealed_at boxes.now (server_in role) e }
 {
-    if EVENTS <= e {
-        return 0;
-    }
-    match role {
-        Role::Client => boxes.clients[usize::from(e)],
-        Role::Server => boxes.servers[usize::from(e)],
-    }
+    let seals = match role {
+        Role::Client => &boxes.clients,
+        Role::Server => &boxes.servers,
+    };
+    seals.get(usize::from(e))?.checked_sub(1)
 }
 
 // Event e is put into its box, unless its slot leads to one that equals it.

@@ -1,16 +1,18 @@
 -- `first` is the lowest number that the test finds, and `any` says whether there is one.
 -- Assumes nothing.
-use Prim.Native.Nat.{ℕ, zero, suc, ◌<◌, ◌≤◌}
+use Prim.Native.Nat.{ℕ, zero, suc, ◌+◌, ◌<◌, ◌≤◌}
 use native.Mathlib.Omega.{arith}
 use native.Mathlib.Decide.{dec_lt}
 use mathlib.Core.Bool.{Bool, true, false, true≢false, ◌||◌}
 use mathlib.Core.Logic.{◌⊎◌, inl, inr, ⊎_elim}
-use mathlib.Core.Path.{◌≡◌, refl, sym, ◌∙◌}
+use mathlib.Core.Path.{◌≡◌, refl, sym, ◌∙◌, ap}
 use lib.Dec.{ltb}
 use borrow.Author.Tests.{lt-ltb, le-ltb}
 use Rattle.std.specs.Prelude.{Option, Some, None, MatchOption}
+use Rattle.std.specs.List.{list_any, range_with_len}
 use Rattle.laws.specs.Choose.{choose}
 use Rattle.laws.specs.First.{first, found, any}
+use Rattle.laws.proofs.Both.{or_none, or_assoc}
 
 pub lt_suc : (i n : ℕ) → i < suc n → (i < n) ⊎ (i ≡ n)
 lt_suc i n h = go (dec_lt i n)
@@ -99,3 +101,21 @@ module _ (p : ℕ → Bool) where
           (k : ℕ) × (k < n) × (p k ≡ true)
       go (inl (k, l, t, h)) = (k, l, t)
       go (inr h) = absurd (true≢false (sym e ∙ any_none p n h))
+
+  -- over a range, as a chain of iterators searches it
+  range_last : (a n : ℕ) → list_any p (range_with_len a (suc n)) ≡ (list_any p (range_with_len a n) || p (a + n))
+  range_last a zero =
+      let e : a + 0 ≡ a = omega arith in
+      rw e (or_none (p a))
+  range_last a (suc n) =
+      let e : a + suc n ≡ a + 1 + n = omega arith in
+      rw e
+      (ap (λ (b : Bool). p a || b) (range_last (a + 1) n) ∙
+      sym (or_assoc (p a) (list_any p (range_with_len (a + 1) n)) (p (a + 1 + n))))
+
+  pub any_range : (n : ℕ) → list_any p (range_with_len 0 n) ≡ any p n
+  unfolding any
+  any_range zero = refl
+  any_range (suc n) =
+      let e : 0 + n ≡ n = omega arith in
+      range_last 0 n ∙ rw (any_range n, e) refl

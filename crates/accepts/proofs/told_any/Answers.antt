@@ -7,7 +7,7 @@ use borrow.Author.Tests.{tests}
 use Rattle.forms.specs.Kinds.{server_in}
 use Rattle.earlier.specs.Earlier.{heard_at}
 use Rattle.accepts.specs.Tests.{told_finished}
-use Rattle.accepts.proofs.Branches.{any_range}
+use Rattle.laws.proofs.First.{any_range}
 use Rattle.accepts.proofs.told_any.Goals as goal
 
 pub returns : goal.returns
