@@ -7,8 +7,7 @@ ghost use Rattle.earlier.specs.Boxes.{found};
 ghost use Rattle.earlier.specs.Earlier.{heard_in};
 ghost use Rattle.finished.specs.Tests.{own_finished, secret_of, greeted, client_finished, server_finished, client_resume, server_resume};
 
-use earlier::Wanted;
-use earlier::boxes::BOX_ROOM;
+use earlier::{Boxes, Wanted};
 use forms::Sealed;
 use trace::{Event, Role};
 
@@ -42,7 +41,7 @@ fn secret_of(file: &[u8], m: Sealed) -> Option<u16>
 }
 
 // Whether its side had the hello and the reply of a Finished: A said CH and was told SH, B was told CH and said SH.
-fn greeted(file: &[u8], boxes: &[u16; BOX_ROOM], m: Sealed) -> bool
+fn greeted(file: &[u8], boxes: &Boxes, m: Sealed) -> bool
     ensures { result ≡ greeted (found file.now boxes.now) m }
 {
     match m.role {
@@ -59,7 +58,7 @@ fn greeted(file: &[u8], boxes: &[u16; BOX_ROOM], m: Sealed) -> bool
 
 // Rule 8: ClientFinished.
 #[tactic(auto, unfolding(crate::specs::Tests::client_finished))]
-pub fn client_finished(file: &[u8], boxes: &[u16; BOX_ROOM], event: Event) -> bool
+pub fn client_finished(file: &[u8], boxes: &Boxes, event: Event) -> bool
     ensures { result ≡ client_finished file.now (found file.now boxes.now) (heard_in event) }
 {
     let Some(m) = own_finished(file, event, Role::Client) else {
@@ -73,7 +72,7 @@ pub fn client_finished(file: &[u8], boxes: &[u16; BOX_ROOM], event: Event) -> bo
 
 // Rule 9: ServerFinished.
 #[tactic(auto, unfolding(crate::specs::Tests::server_finished))]
-pub fn server_finished(file: &[u8], boxes: &[u16; BOX_ROOM], event: Event) -> bool
+pub fn server_finished(file: &[u8], boxes: &Boxes, event: Event) -> bool
     ensures { result ≡ server_finished file.now (found file.now boxes.now) (heard_in event) }
 {
     let Some(m) = own_finished(file, event, Role::Server) else {
@@ -87,7 +86,7 @@ pub fn server_finished(file: &[u8], boxes: &[u16; BOX_ROOM], event: Event) -> bo
 
 // Rule 12: ClientResume.
 #[tactic(auto, unfolding(crate::specs::Tests::client_resume))]
-pub fn client_resume(file: &[u8], boxes: &[u16; BOX_ROOM], event: Event) -> bool
+pub fn client_resume(file: &[u8], boxes: &Boxes, event: Event) -> bool
     ensures { result ≡ client_resume file.now (found file.now boxes.now) (heard_in event) }
 {
     let Some(m) = own_finished(file, event, Role::Client) else {
@@ -99,7 +98,7 @@ pub fn client_resume(file: &[u8], boxes: &[u16; BOX_ROOM], event: Event) -> bool
 
 // Rule 13: ServerResume.
 #[tactic(auto, unfolding(crate::specs::Tests::server_resume))]
-pub fn server_resume(file: &[u8], boxes: &[u16; BOX_ROOM], event: Event) -> bool
+pub fn server_resume(file: &[u8], boxes: &Boxes, event: Event) -> bool
     ensures { result ≡ server_resume file.now (found file.now boxes.now) (heard_in event) }
 {
     let Some(m) = own_finished(file, event, Role::Server) else {
