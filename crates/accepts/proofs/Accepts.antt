@@ -11,6 +11,7 @@ use Rattle.paper.specs.Event as event
 use Rattle.paper.specs.Event.{In}
 use Rattle.paper.specs.Rules.{agreed, Finished, Step, ClientAccepts, ServerAccepts}
 use Rattle.trace.specs.File.{events_of}
+use Rattle.trace.specs.declared.Role.TheVariants.{Client, Server}
 use Rattle.laws.specs.First.{any}
 use Rattle.laws.specs.Choose.{choose}
 use Rattle.trace.specs.Events.{event_at}
@@ -18,14 +19,16 @@ use Rattle.trace.specs.Meaning.{event_meant, beginning, bad, as_nonce}
 use Rattle.trace.specs.Promises.{Promised}
 use Rattle.laws.proofs.First.{any_some, any_inv}
 use Rattle.laws.proofs.Both.{both, both3, both4, refuted}
-use Rattle.forms.specs.Kinds.{prf_of}
+use Rattle.forms.specs.Kinds.{server_in, prf_of}
 use Rattle.forms.specs.Forms.{remembered_of, sealed_of}
 use Rattle.forms.specs.Shapes.{role_named, RowHolds}
 use Rattle.forms.proofs.Flags.{both5, both6}
 use Rattle.forms.proofs.Shaped.{shapes}
 use Rattle.earlier.specs.declared.Wanted.TheVariants.{Secret, Sent}
 use Rattle.earlier.specs.Earlier.{heard_at, said_to, said_by, earlier, past}
-use Rattle.accepts.specs.Tests.{said_finished, told_finished, both_finished, client_accepts, server_accepts}
+use Rattle.accepts.specs.declared.Session.{Session}
+use Rattle.accepts.specs.declared.Side.{Side}
+use Rattle.accepts.specs.Tests.{said_finished, told_finished, both_finished, side_of, session_in, client_accepts, server_accepts}
 use Rattle.earlier.proofs.Meant.{notes_meant, notes_told, not_later, here_row, not_true, row_in, to_sound, by_sound, said_told}
 use Rattle.earlier.proofs.Premises.{event_same, notes_same, crypt_same, number_one, nonce_one, one_message, one_row, session_same, secret_sound, secret_complete, sent_sound, sent_complete}
 use Rattle.forms.proofs.Keyed.{role_client, role_server}
@@ -92,66 +95,66 @@ sent_in : {A B B' : paper.agent} {X : paper.msg} {evs : event.trace} → B ≡ B
 sent_in q i = rw q at i
 
 module _ (file : List ℕ) (P : Promised file) (e : ℕ) (o : e ≤ events_of file) where
-  pub both_finished_sound : (server : Bool) (from to sid a b m na nb : ℕ) {SID : ℕ} {M Na Nb : paper.nonce} →
-      both_finished file e server from to sid a b m na nb ≡ true → RowHolds file sid (paper.Number SID) →
-      RowHolds file m (paper.Nonce M) → RowHolds file na (paper.Nonce Na) → RowHolds file nb (paper.Nonce Nb) →
+  pub both_finished_sound : (by : Side) (s : Session) {SID : ℕ} {M Na Nb : paper.nonce} →
+      both_finished file e by s ≡ true → RowHolds file s.sid (paper.Number SID) →
+      RowHolds file s.m (paper.Nonce M) → RowHolds file s.na (paper.Nonce Na) → RowHolds file s.nb (paper.Nonce Nb) →
       (Pa : ℕ) × (Pb : ℕ) × (C : paper.agent) ×
-      In (event.Says from to (Finished (role_named server) SID M Na Pa a Nb Pb b)) (beginning file e) ×
-      In (event.Says C from (Finished (role_named (not server)) SID M Na Pa a Nb Pb b)) (beginning file e)
+      In (event.Says by.from by.to (Finished (role_named (server_in by.role)) SID M Na Pa s.a Nb Pb s.b)) (beginning file e) ×
+      In (event.Says C by.from (Finished (role_named (not (server_in by.role))) SID M Na Pa s.a Nb Pb s.b)) (beginning file e)
   unfolding both_finished
-  both_finished_sound server from to sid a b m na nb {SID} {M} {Na} {Nb} t hs hm hna hnb =
-      let p : ℕ → ℕ → Bool = λ i j. told_finished file (heard_at file j) (not server) from (sealed_of file (heard_at file i).row).hash in
+  both_finished_sound by s {SID} {M} {Na} {Nb} t hs hm hna hnb =
+      let p : ℕ → ℕ → Bool = λ i j. told_finished file (heard_at file j) (not (server_in by.role)) by.from (sealed_of file (heard_at file i).row).hash in
       let x =
       any_inv
-      (λ i. said_finished file (heard_at file i) server from to sid a b m na nb &&
-      any (λ j. told_finished file (heard_at file j) (not server) from (sealed_of file (heard_at file i).row).hash) e)
+      (λ i. said_finished file (heard_at file i) by s &&
+      any (λ j. told_finished file (heard_at file j) (not (server_in by.role)) by.from (sealed_of file (heard_at file i).row).hash) e)
       e t
       in
       let i = x.0 in
-      let y = both (said_finished file (heard_at file i) server from to sid a b m na nb) (any (p i) e) x.2 in
+      let y = both (said_finished file (heard_at file i) by s) (any (p i) e) x.2 in
       let z = any_inv (p i) e y.1 in
       let j = z.0 in
       let f = sealed_of file (heard_at file i).row in
       let k = sealed_of file (heard_at file j).row in
       let u =
-      both (said_by (heard_at file i) from to)
-      (f.is && eqb f.sid sid && eqb f.a a && eqb f.b b && eqb f.m m && eqb f.na na && eqb f.nb nb &&
-      choose server f.server (not f.server)) y.0
+      both (said_by (heard_at file i) by.from by.to)
+      (f.is && eqb f.sid s.sid && eqb f.a s.a && eqb f.b s.b && eqb f.m s.m && eqb f.na s.na && eqb f.nb s.nb &&
+      choose (server_in by.role) f.server (not f.server)) y.0
       in
       let v =
-      both8 f.is (eqb f.sid sid) (eqb f.a a) (eqb f.b b) (eqb f.m m) (eqb f.na na) (eqb f.nb nb)
-      (choose server f.server (not f.server)) u.1
+      both8 f.is (eqb f.sid s.sid) (eqb f.a s.a) (eqb f.b s.b) (eqb f.m s.m) (eqb f.na s.na) (eqb f.nb s.nb)
+      (choose (server_in by.role) f.server (not f.server)) u.1
       in
       let w =
-      both (said_to (heard_at file j) from) (k.is && eqb k.hash f.hash && choose (not server) k.server (not k.server)) z.2
+      both (said_to (heard_at file j) by.from) (k.is && eqb k.hash f.hash && choose (not (server_in by.role)) k.server (not k.server)) z.2
       in
-      let c = both3 k.is (eqb k.hash f.hash) (choose (not server) k.server (not k.server)) w.1 in
+      let c = both3 k.is (eqb k.hash f.hash) (choose (not (server_in by.role)) k.server (not k.server)) w.1 in
       let g = (shapes file P).sealed_sound (heard_at file i).row (row_in file P e o i x.1) v.0 in
       let d = (shapes file P).sealed_sound (heard_at file j).row (row_in file P e o j z.1) c.0 in
       let q =
-      agreed_same (number_one (one_message file f.sid sid g.6.sid v.1 hs))
-      (nonce_one (one_message file f.m m g.6.m v.4 hm)) (nonce_one (one_message file f.na na g.6.na v.5 hna))
-      (eqb-true f.a a v.2) (nonce_one (one_message file f.nb nb g.6.nb v.6 hnb)) (eqb-true f.b b v.3)
+      agreed_same (number_one (one_message file f.sid s.sid g.6.sid v.1 hs))
+      (nonce_one (one_message file f.m s.m g.6.m v.4 hm)) (nonce_one (one_message file f.na s.na g.6.na v.5 hna))
+      (eqb-true f.a s.a v.2) (nonce_one (one_message file f.nb s.nb g.6.nb v.6 hnb)) (eqb-true f.b s.b v.3)
       in
       let first =
-      by_sound file P e o i from to x.1 u.0
-      (g.6.whole ∙ sealed_same (ap role_named (chosen server f.server v.7)) q)
+      by_sound file P e o i by.from by.to x.1 u.0
+      (g.6.whole ∙ sealed_same (ap role_named (chosen (server_in by.role) f.server v.7)) q)
       in
       let second =
-      to_sound file P e o j from z.1 w.0
+      to_sound file P e o j by.from z.1 w.0
       (d.6.whole ∙
-      sealed_same (ap role_named (chosen (not server) k.server c.2))
+      sealed_same (ap role_named (chosen (not (server_in by.role)) k.server c.2))
       (one_message file k.hash f.hash d.6.hash c.1 g.6.hash ∙ q))
       in
       (g.3, g.5, second.0, first, second.1)
 
-  pub both_finished_complete : (server : Bool) (from to sid a b m na nb : ℕ) {SID : ℕ} {M Na Nb : paper.nonce} {Pa Pb : ℕ} {C : paper.agent} →
-      In (event.Says from to (Finished (role_named server) SID M Na Pa a Nb Pb b)) (beginning file e) →
-      In (event.Says C from (Finished (role_named (not server)) SID M Na Pa a Nb Pb b)) (beginning file e) →
-      RowHolds file sid (paper.Number SID) → RowHolds file m (paper.Nonce M) → RowHolds file na (paper.Nonce Na) →
-      RowHolds file nb (paper.Nonce Nb) → both_finished file e server from to sid a b m na nb ≡ true
+  pub both_finished_complete : (by : Side) (s : Session) {SID : ℕ} {M Na Nb : paper.nonce} {Pa Pb : ℕ} {C : paper.agent} →
+      In (event.Says by.from by.to (Finished (role_named (server_in by.role)) SID M Na Pa s.a Nb Pb s.b)) (beginning file e) →
+      In (event.Says C by.from (Finished (role_named (not (server_in by.role))) SID M Na Pa s.a Nb Pb s.b)) (beginning file e) →
+      RowHolds file s.sid (paper.Number SID) → RowHolds file s.m (paper.Nonce M) → RowHolds file s.na (paper.Nonce Na) →
+      RowHolds file s.nb (paper.Nonce Nb) → both_finished file e by s ≡ true
   unfolding both_finished
-  both_finished_complete server from to sid a b m na nb i j hs hm hna hnb =
+  both_finished_complete by s i j hs hm hna hnb =
       let t = said_told file P e o i in
       let u = said_told file P e o j in
       let f = sealed_of file (heard_at file t.at).row in
@@ -160,25 +163,25 @@ module _ (file : List ℕ) (P : Promised file) (e : ℕ) (o : e ≤ events_of fi
       let d = (shapes file P).sealed_complete (heard_at file u.at).row u.row u.meant in
       let inner =
       any_some
-      (λ j. told_finished file (heard_at file j) (not server) from (sealed_of file (heard_at file t.at).row).hash) e u.at
+      (λ j. told_finished file (heard_at file j) (not (server_in by.role)) by.from (sealed_of file (heard_at file t.at).row).hash) e u.at
       u.before
-      (rw (u.to, d.flag, one_row file P k.hash f.hash d.hash g.hash, choosing (not server) k.server d.role) refl)
+      (rw (u.to, d.flag, one_row file P k.hash f.hash d.hash g.hash, choosing (not (server_in by.role)) k.server d.role) refl)
       in
       any_some
-      (λ i. said_finished file (heard_at file i) server from to sid a b m na nb &&
-      any (λ j. told_finished file (heard_at file j) (not server) from (sealed_of file (heard_at file i).row).hash) e)
+      (λ i. said_finished file (heard_at file i) by s &&
+      any (λ j. told_finished file (heard_at file j) (not (server_in by.role)) by.from (sealed_of file (heard_at file i).row).hash) e)
       e t.at t.before
       (rw (
         inner,
         t.by,
         g.flag,
-        one_row file P f.sid sid g.sid hs,
-        eq-eqb f.a a g.a,
-        eq-eqb f.b b g.b,
-        one_row file P f.m m g.m hm,
-        one_row file P f.na na g.na hna,
-        one_row file P f.nb nb g.nb hnb,
-        choosing server f.server g.role,
+        one_row file P f.sid s.sid g.sid hs,
+        eq-eqb f.a s.a g.a,
+        eq-eqb f.b s.b g.b,
+        one_row file P f.m s.m g.m hm,
+        one_row file P f.na s.na g.na hna,
+        one_row file P f.nb s.nb g.nb hnb,
+        choosing (server_in by.role) f.server g.role,
       ) refl)
 
 module _ (file : List ℕ) (P : Promised file) (e : ℕ) (le : e < events_of file) where
@@ -190,7 +193,7 @@ module _ (file : List ℕ) (P : Promised file) (e : ℕ) (le : e < events_of fil
       let n = remembered_of file h.row in
       let p = prf_of file n.m in
       let o = not_later file P e le in
-      let w = both_finished file e false n.a n.b n.sid n.a n.b n.m p.second p.third in
+      let w = both_finished file e (side_of Client n.a n.b) (session_in file h.row) in
       let b = both (not h.says) (n.is && eqb n.a h.from && p.is && earlier file (Secret h.from n.b p.first) e && w) t in
       let c = both5 n.is (eqb n.a h.from) p.is (earlier file (Secret h.from n.b p.first) e) w b.1 in
       let g = (shapes file P).remembered_sound h.row (here_row file P e le) c.0 in
@@ -198,7 +201,7 @@ module _ (file : List ℕ) (P : Promised file) (e : ℕ) (le : e < events_of fil
       let q = sym (eqb-true n.a h.from c.1) in
       let s = notes_in q (secret_sound file P e o h.from n.b p.first c.3 f.first) in
       let x =
-      both_finished_sound file P e o false n.a n.b n.sid n.a n.b n.m p.second p.third c.4
+      both_finished_sound file P e o (side_of Client n.a n.b) (session_in file h.row) c.4
       g.2.sid (record { row = g.2.m.row; meant = f.whole }) f.second f.third
       in
       event_same
@@ -223,7 +226,7 @@ module _ (file : List ℕ) (P : Promised file) (e : ℕ) (le : e < events_of fil
           let f = (shapes file P).prf_complete n.m g.m.row g.m.meant in
           let x = secret_complete file P e o h.from n.b p.first (rw (← t.1, ← g.b) at s) f.first in
           let y =
-          both_finished_complete file P e o false n.a n.b n.sid n.a n.b n.m p.second p.third
+          both_finished_complete file P e o (side_of Client n.a n.b) (session_in file h.row)
           (rw (← g.a, ← g.b) at i) (rw (← g.a, ← g.b) at j) g.sid g.m f.second f.third
           in
           rw (t.0, g.flag, eq-eqb n.a h.from (g.a ∙ sym t.1), f.flag, x, y) refl
@@ -236,7 +239,7 @@ module _ (file : List ℕ) (P : Promised file) (e : ℕ) (le : e < events_of fil
       let n = remembered_of file h.row in
       let p = prf_of file n.m in
       let o = not_later file P e le in
-      let w = both_finished file e true n.b n.a n.sid n.a n.b n.m p.second p.third in
+      let w = both_finished file e (side_of Server n.b n.a) (session_in file h.row) in
       let b =
       both (not h.says)
       (n.is && eqb n.b h.from && not (eqb n.a n.b) && p.is && earlier file (Sent h.from p.first) e && w) t
@@ -249,7 +252,7 @@ module _ (file : List ℕ) (P : Promised file) (e : ℕ) (le : e < events_of fil
       let q = sym (eqb-true n.b h.from c.1) in
       let s = sent_sound file P e o h.from p.first c.4 f.first in
       let x =
-      both_finished_sound file P e o true n.b n.a n.sid n.a n.b n.m p.second p.third c.5
+      both_finished_sound file P e o (side_of Server n.b n.a) (session_in file h.row) c.5
       g.2.sid (record { row = g.2.m.row; meant = f.whole }) f.second f.third
       in
       event_same
@@ -275,7 +278,7 @@ module _ (file : List ℕ) (P : Promised file) (e : ℕ) (le : e < events_of fil
           let k = refuted (eqb n.a n.b) (λ z. d (sym g.a ∙ eqb-true n.a n.b z ∙ g.b)) in
           let x = sent_complete file P e o h.from p.first (rw (← t.1) at s) f.first in
           let y =
-          both_finished_complete file P e o true n.b n.a n.sid n.a n.b n.m p.second p.third
+          both_finished_complete file P e o (side_of Server n.b n.a) (session_in file h.row)
           (rw (← g.a, ← g.b) at i) (rw (← g.a, ← g.b) at j) g.sid g.m f.second f.third
           in
           rw (t.0, g.flag, eq-eqb n.b h.from (g.b ∙ sym t.1), k, f.flag, x, y) refl

@@ -14,16 +14,20 @@ use Rattle.trace.specs.File.{row_limit, agent_limit}
 use Rattle.laws.specs.First.{any}
 use Rattle.laws.specs.Choose.{choose}
 use Rattle.laws.proofs.Both.{both, refuted, or_true, or_none, and_true, and_false}
+use Rattle.forms.specs.Kinds.{server_in}
 use Rattle.forms.specs.Forms.{sealed_of}
 use Rattle.closure.specs.Closure.{row_marked, mark_row, zeros}
 use Rattle.closure.proofs.Marks.{mark_same, mark_other, mark_room, none_marked}
 use Rattle.forms.proofs.Keyed.{hash_row}
-use Rattle.earlier.specs.declared.Heard.{Heard}
+use Rattle.earlier.specs.declared.boxes.Boxes.{Boxes}
+use Rattle.earlier.specs.Heard.{Heard}
 use Rattle.earlier.specs.Earlier.{heard_at, said_to, said_by}
 use Rattle.earlier.specs.Boxes.{latest_to, next, chain_from, some}
 use Rattle.earlier.specs.Kept.{seal_mark, seal_at, Boxed}
 use Rattle.earlier.proofs.Chains.{Below, none, more, chain_step, chain_end, chain_below, some_same}
 use Rattle.earlier.proofs.Finding.{said_box, by_box, chain_any}
+use Rattle.accepts.specs.declared.Session.{Session}
+use Rattle.accepts.specs.declared.Side.{Side}
 use Rattle.accepts.specs.Tests.{said_finished, told_finished, both_finished}
 use Rattle.accepts.specs.Hashes.{told_here, mark_event, mark_all, answered_in, agreed_in, both_in}
 use Rattle.accepts.proofs.Branches.{or_assoc, hash_last}
@@ -88,17 +92,7 @@ module _ (file : List ℕ) (server : Bool) (to : ℕ) where
       let f = sealed_of file h.row in
       hash_last (said_to h to) f.is (eqb f.hash hash) (choose server f.server (not f.server))
 
-  pub mark_more : (boxes : List ℕ) (link : ℕ) (marks : List ℕ) → 0 < link →
-      mark_all file boxes server to (chain_from boxes link) marks ≡
-      mark_all file boxes server to (chain_from boxes (next boxes link)) (mark_event file boxes server to (link - 1) marks)
-  unfolding mark_all
-  mark_more boxes link marks l = ap (λ (js : List ℕ). mark_all file boxes server to js marks) (chain_step boxes link l)
-
-  pub mark_end : (boxes : List ℕ) (link : ℕ) (marks : List ℕ) → link ≡ 0 → mark_all file boxes server to (chain_from boxes link) marks ≡ marks
-  unfolding mark_all
-  mark_end boxes link marks z = ap (λ (js : List ℕ). mark_all file boxes server to js marks) (chain_end boxes link z)
-
-  module _ (boxes : List ℕ) (e : ℕ) (X : Boxed file boxes e) where
+  module _ (boxes : Boxes) (e : ℕ) (X : Boxed file boxes e) where
     marked_more : (marks : List ℕ) → length marks ≡ row_limit → (j x : ℕ) → j < e → x < row_limit →
         row_marked (mark_event file boxes server to j marks) x ≡ (row_marked marks x || told_finished file (heard_at file j) server to x)
     marked_more marks room j x m l =
@@ -112,7 +106,7 @@ module _ (file : List ℕ) (server : Bool) (to : ℕ) where
 
     all_marked : {js : List ℕ} → Below e js → (marks : List ℕ) → length marks ≡ row_limit → (x : ℕ) → x < row_limit →
         row_marked (mark_all file boxes server to js marks) x ≡ (row_marked marks x || some (λ j. told_finished file (heard_at file j) server to x) js)
-    unfolding mark_all some
+    unfolding mark_all
     all_marked none marks room x l = sym (or_none (row_marked marks x))
     all_marked (more {j} {js} m b) marks room x l =
         let room' = mark_length marks room (said_to (heard_at file j) to && ltb 0 (seal_at boxes server j)) (seal_at boxes server j - 1) in
@@ -152,41 +146,44 @@ reorder said own told true h = let p = h refl in rw (p.0, p.1) (and_true told)
 reorder said own told false h = and_false (said && own && told)
 
 -- the two passes find what two searches would
-module _ (file boxes : List ℕ) (e : ℕ) (X : Boxed file boxes e) where
-  module _ (server : Bool) (from to sid a b m na nb : ℕ) where
+module _ (file : List ℕ) (boxes : Boxes) (e : ℕ) (X : Boxed file boxes e) where
+  module _ (by : Side) (s : Session) where
+    abbrev server : Bool
+    server = server_in by.role
+
     abbrev told : List ℕ
-    told = marks file (not server) from boxes e X
+    told = marks file (not server) by.from boxes e X
 
     abbrev agreed_by : Heard → Bool
-    agreed_by h = said_finished file h server from to sid a b m na nb && answered_in file told e (not server) from (sealed_of file h.row).hash
+    agreed_by h = said_finished file h by s && answered_in file told e (not server) by.from (sealed_of file h.row).hash
 
-    agreed_same : (i : ℕ) → i < e → agreed_in file boxes told e server from to sid a b m na nb i ≡ agreed_by (heard_at file i)
+    agreed_same : (i : ℕ) → i < e → agreed_in file boxes told e by s i ≡ agreed_by (heard_at file i)
     agreed_same i l =
         let h = heard_at file i in
         rw (hash_row file h.row)
-        (reorder (said_by h from to) (ltb 0 (seal_at boxes server i))
-        (answered_in file told e (not server) from (sealed_of file h.row).hash)
-        (said_finished file h server from to sid a b m na nb)
-        (λ t. ((both (said_by h from to) _ t).0, rw (X.seals server i l) (own t))))
+        (reorder (said_by h by.from by.to) (ltb 0 (seal_at boxes server i))
+        (answered_in file told e (not server) by.from (sealed_of file h.row).hash)
+        (said_finished file h by s)
+        (λ t. ((both (said_by h by.from by.to) _ t).0, rw (X.seals server i l) (own t))))
       where
-        own : said_finished file (heard_at file i) server from to sid a b m na nb ≡ true → ltb 0 (seal_mark file server (heard_at file i).row) ≡ true
+        own : said_finished file (heard_at file i) by s ≡ true → ltb 0 (seal_mark file server (heard_at file i).row) ≡ true
         own t =
             let h = heard_at file i in
             let f = sealed_of file h.row in
-            let p = both (said_by h from to) _ t in
-            let q = both8 f.is (eqb f.sid sid) (eqb f.a a) (eqb f.b b) (eqb f.m m) (eqb f.na na) (eqb f.nb nb) (choose server f.server (not f.server)) p.1 in
+            let p = both (said_by h by.from by.to) _ t in
+            let q = both8 f.is (eqb f.sid s.sid) (eqb f.a s.a) (eqb f.b s.b) (eqb f.m s.m) (eqb f.na s.na) (eqb f.nb s.nb) (choose server f.server (not f.server)) p.1 in
             seal_some (f.is && choose server f.server (not f.server)) (ltb f.hash row_limit) f.hash (rw (q.0, q.7) refl)
 
-    both_at : both_in file boxes e server from to sid a b m na nb ≡ both_finished file e server from to sid a b m na nb
+    both_at : both_in file boxes e by s ≡ both_finished file e by s
     unfolding both_in both_finished
     both_at =
-        let l : to % agent_limit < agent_limit = mod-lt to (omega arith) in
-        let low : latest_to boxes to ≤ e = X.links.low (to % agent_limit) (omega (arith, l)) in
-        some_same boxes _ agreed_same (chain_below boxes e (latest_to boxes to) low) ∙
-        chain_any file boxes e X.links agreed_by (to % agent_limit) (omega (arith, l))
-        (λ h t. by_box h from to (both (said_by h from to) _ (both _ _ t).0).0) ∙
+        let l : by.to % agent_limit < agent_limit = mod-lt by.to (omega arith) in
+        let low : latest_to boxes by.to ≤ e = X.links.low (by.to % agent_limit) (omega (arith, l)) in
+        some_same boxes _ agreed_same (chain_below boxes e (latest_to boxes by.to) low) ∙
+        chain_any file boxes e X.links agreed_by (by.to % agent_limit) (omega (arith, l))
+        (λ h t. by_box h by.from by.to (both (said_by h by.from by.to) _ (both _ _ t).0).0) ∙
         any_same _ _
-        (λ (i : ℕ). rw (answered_told file (not server) from boxes e X (sealed_of file (heard_at file i).row).hash) refl) e
+        (λ (i : ℕ). rw (answered_told file (not server) by.from boxes e X (sealed_of file (heard_at file i).row).hash) refl) e
 
   pub both_past : both_in file boxes e ≡ both_finished file e
-  both_past = λ i server from to sid a b m na nb. both_at server from to sid a b m na nb i
+  both_past = λ i by s. both_at by s i

@@ -3,13 +3,16 @@ use Rattle.std.specs.Prelude.{ℕ, ◌-◌, Bool, ◌&&◌, not, List, [], ◌�
 use Rattle.trace.specs.File.{row_limit}
 use Rattle.laws.specs.First.{any}
 use Rattle.laws.specs.Choose.{choose}
-use Rattle.forms.specs.Kinds.{crypt_of}
+use Rattle.forms.specs.Kinds.{server_in, crypt_of}
 use Rattle.forms.specs.Forms.{sealed_of}
 use Rattle.closure.specs.Closure.{row_marked, mark_row, zeros}
-use Rattle.earlier.specs.declared.Heard.{Heard}
+use Rattle.earlier.specs.declared.boxes.Boxes.{Boxes}
+use Rattle.earlier.specs.Heard.{Heard}
 use Rattle.earlier.specs.Earlier.{heard_at, said_to, said_by}
 use Rattle.earlier.specs.Boxes.{latest_to, chain_from, some}
 use Rattle.earlier.specs.Kept.{seal_at}
+use Rattle.accepts.specs.declared.Session.{Session}
+use Rattle.accepts.specs.declared.Side.{Side}
 use Rattle.accepts.specs.Tests.{said_finished, told_finished}
 
 -- a Finished of that side, said to this agent, whatever its hash
@@ -18,11 +21,11 @@ told_here file h server to =
     let f = sealed_of file h.row in
     said_to h to && (f.is && choose server f.server (not f.server))
 
-abbrev pub mark_event : (file boxes : List ℕ) → Bool → (to j : ℕ) → List ℕ → List ℕ
+abbrev pub mark_event : List ℕ → Boxes → Bool → (to j : ℕ) → List ℕ → List ℕ
 mark_event file boxes server to j marks =
     choose (said_to (heard_at file j) to && ltb 0 (seal_at boxes server j)) (mark_row marks (seal_at boxes server j - 1)) marks
 
-unfoldable pub mark_all : (file boxes : List ℕ) → Bool → ℕ → (events marks : List ℕ) → List ℕ
+unfoldable pub mark_all : List ℕ → Boxes → Bool → ℕ → (events marks : List ℕ) → List ℕ
 mark_all file boxes server to [] marks = marks
 mark_all file boxes server to (j ∷ js) marks = mark_all file boxes server to js (mark_event file boxes server to j marks)
 
@@ -32,14 +35,15 @@ answered_in file marks e server to hash =
     choose (ltb hash row_limit) (row_marked marks hash) (any (λ j. told_finished file (heard_at file j) server to hash) e)
 
 -- one side's Finished, whose hash the other side told
-abbrev pub agreed_in : (file boxes marks : List ℕ) → ℕ → Bool → (from to sid a b m na nb i : ℕ) → Bool
-agreed_in file boxes marks e server from to sid a b m na nb i =
+abbrev pub agreed_in : List ℕ → Boxes → (marks : List ℕ) → ℕ → Side → Session → ℕ → Bool
+agreed_in file boxes marks e by s i =
     let h = heard_at file i in
-    said_by h from to && ltb 0 (seal_at boxes server i) && answered_in file marks e (not server) from (crypt_of file h.row).second &&
-    said_finished file h server from to sid a b m na nb
+    let server = server_in by.role in
+    said_by h by.from by.to && ltb 0 (seal_at boxes server i) &&
+    answered_in file marks e (not server) by.from (crypt_of file h.row).second && said_finished file h by s
 
 -- the two passes over the boxes
-unfoldable pub both_in : (file boxes : List ℕ) → ℕ → Bool → (from to sid a b m na nb : ℕ) → Bool
-both_in file boxes e server from to sid a b m na nb =
-    let marks = mark_all file boxes (not server) from (chain_from boxes (latest_to boxes from)) (zeros row_limit) in
-    some (agreed_in file boxes marks e server from to sid a b m na nb) (chain_from boxes (latest_to boxes to))
+unfoldable pub both_in : List ℕ → Boxes → ℕ → Side → Session → Bool
+both_in file boxes e by s =
+    let marks = mark_all file boxes (not (server_in by.role)) by.from (chain_from boxes (latest_to boxes by.from)) (zeros row_limit) in
+    some (agreed_in file boxes marks e by s) (chain_from boxes (latest_to boxes by.to))

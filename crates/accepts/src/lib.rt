@@ -1,292 +1,239 @@
 // A session that is accepted, over rows: rules 10 and 11.
 #![tactic(auto)]
 
-ghost use Rattle.std.specs.Prelude.{◌≡◌, not, ◌&&◌, eqb};
+ghost use Rattle.std.specs.Prelude.{◌≡◌, not};
 ghost use Rattle.laws.specs.First.{any};
-ghost use Rattle.closure.specs.Closure.{mark_row};
-ghost use Rattle.earlier.specs.Earlier.{heard_at};
+ghost use Rattle.forms.specs.Kinds.{server_in};
+ghost use Rattle.earlier.specs.Earlier.{heard_in, heard_at};
 ghost use Rattle.earlier.specs.Boxes.{latest_to, chain_from, some, found};
-ghost use Rattle.accepts.specs.Tests.{said_finished, told_finished, client_accepts, server_accepts};
-ghost use Rattle.accepts.specs.Hashes.{told_here, mark_event, mark_all, answered_in, agreed_in, both_in};
+ghost use Rattle.accepts.specs.Tests.{said_finished, told_finished, client_accepts, server_accepts, remembers};
+ghost use Rattle.accepts.specs.Hashes.{mark_event, mark_all, answered_in, agreed_in, both_in};
 
-use earlier::boxes::BOX_ROOM;
-use earlier::{Heard, Wanted};
-use forms::Remembered;
-use forms::leaves::Three;
+use earlier::boxes::{events_to, sealed};
+use earlier::{Boxes, Wanted};
 use trace::limits::{ROW_LIMIT, ROWS};
+use trace::{Event, EventNo, Role};
 
-// Whether h is a Finished of that side, said to this agent, whatever its hash.
-fn told_here(file: &[u8], h: Heard, server: bool, to: u16) -> bool
-    ensures { result ≡ told_here file.now h server to }
-{
-    let said = earlier::said_to(h, to);
-    if said {
-        let own = forms::under_key(file, h.row, server);
-        if own {
-            let f = forms::finished(file, h.row);
-            let side = forms::on_side(server, f.server);
-            return (f.is) & side;
-        }
-    }
-    false
+// What two sides agree on, as one of them noted it: the agents by their numbers, and else rows.
+#[derive(Clone, Copy)]
+pub struct Session {
+    pub sid: u16,
+    pub a: u16,
+    pub b: u16,
+    pub m: u16,
+    pub na: u16,
+    pub nb: u16,
 }
 
-fn mark_row(marks: &mut [u8; ROW_LIMIT], r: u16)
-    ensures { marks.new ≡ mark_row marks.old r }
+// Whose Finished is looked for, and who says it to whom.
+#[derive(Clone, Copy)]
+pub struct Side {
+    pub role: Role,
+    pub from: u16,
+    pub to: u16,
+}
+
+fn other(role: Role) -> Role
+    ensures { server_in result ≡ not (server_in role) }
 {
-    if r < ROWS {
-        marks[r as usize] = 1;
+    match role {
+        Role::Client => Role::Server,
+        Role::Server => Role::Client,
     }
 }
 
+// Whether an event says to this agent the Finished of that role with that hash.
+fn told_finished(file: &[u8], event: Event, role: Role, to: u16, hash: u16) -> bool
+    ensures { result ≡ told_finished file.now (heard_in event) (server_in role) to hash }
+{
+    let Event::Says(_, receiver, row) = event else {
+        return false;
+    };
+    let Some(f) = forms::finished(file, row.0) else {
+        return false;
+    };
+    receiver.0 == to && f.hash == hash && f.role == role
+}
+
+// Whether an event is the Finished of one side of that session.
+fn said_finished(file: &[u8], event: Event, by: Side, s: Session) -> bool
+    ensures { result ≡ said_finished file.now (heard_in event) by s }
+{
+    let Event::Says(from, to, row) = event else {
+        return false;
+    };
+    let Some(f) = forms::finished(file, row.0) else {
+        return false;
+    };
+    from.0 == by.from
+        && to.0 == by.to
+        && f.sid == s.sid
+        && f.a == s.a
+        && f.b == s.b
+        && f.m == s.m
+        && f.na == s.na
+        && f.nb == s.nb
+        && f.role == by.role
+}
+
+// The hash of the Finished of that role is marked, if event j tells one to this agent.
 fn mark_event(
     file: &[u8],
-    boxes: &[u16; BOX_ROOM],
+    boxes: &Boxes,
     marks: &mut [u8; ROW_LIMIT],
     j: u16,
-    server: bool,
+    role: Role,
     to: u16,
 )
-    ensures { marks.new ≡ mark_event file.now boxes.now server to j marks.old }
+    ensures { marks.new ≡ mark_event file.now boxes.now (server_in role) to j marks.old }
 {
-    let h = earlier::hear(file, j);
-    let said = earlier::said_to(h, to);
-    let seal = earlier::boxes::sealed(boxes, server, j);
-    if said {
-        if 0 < seal {
-            mark_row(marks, seal - 1);
-        }
+    let event = trace::event_at(file, EventNo(j));
+    let seal = sealed(boxes, role, j);
+    let said = matches!(event, Event::Says(_, receiver, _) if receiver.0 == to);
+    if said && 0 < seal {
+        closure::put(marks, usize::from(seal - 1), 1);
     }
 }
 
 // The hashes of the Finished that an agent was told are marked.
-fn mark_told(
-    file: &[u8],
-    boxes: &[u16; BOX_ROOM],
-    marks: &mut [u8; ROW_LIMIT],
-    server: bool,
-    to: u16,
-)
-    ensures { marks.new ≡
-        mark_all file.now boxes.now server to (chain_from boxes.now (latest_to boxes.now to)) marks.old }
+#[tactic(auto, unfolding(crate::specs::Hashes::mark_all))]
+fn mark_told(file: &[u8], boxes: &Boxes, marks: &mut [u8; ROW_LIMIT], role: Role, to: u16)
+    ensures { marks.new ≡ mark_all file.now boxes.now (server_in role) to
+        (chain_from boxes.now (latest_to boxes.now to)) marks.old }
 {
-    let mut link = earlier::boxes::latest_to(boxes, to);
-    while 0 < link {
-        mark_event(file, boxes, marks, link - 1, server, to);
-        link = earlier::boxes::next(boxes, link);
+    for j in events_to(boxes, to) {
+        mark_event(file, boxes, marks, j, role, to);
     }
 }
 
-fn told_with(file: &[u8], j: u16, server: bool, to: u16, hash: u16) -> bool
-    ensures { result ≡ told_finished file.now (heard_at file.now j) server to hash }
+fn told_any(file: &[u8], e: u16, role: Role, to: u16, hash: u16) -> bool
+    ensures { result ≡ any (λ j. told_finished file.now (heard_at file.now j) (server_in role) to hash) e }
 {
-    let h = earlier::hear(file, j);
-    let told = told_here(file, h, server, to);
-    let c = forms::leaves::crypt_of(file, h.row);
-    told & (c.second == hash)
-}
-
-fn told_any(file: &[u8], e: u16, server: bool, to: u16, hash: u16) -> bool
-    ensures { result ≡ any (λ j. told_finished file.now (heard_at file.now j) server to hash) e }
-{
-    let mut j: u16 = 0;
-    while j < e {
-        let found = told_with(file, j, server, to, hash);
-        if found {
-            return true;
-        }
-        j += 1;
-    }
-    false
+    (0..e).any(|j| told_finished(file, trace::event_at(file, EventNo(j)), role, to, hash))
 }
 
 // Whether a Finished with that hash was told. Only a file that is not readable has a hash past the marks.
-fn answered(file: &[u8], marks: &[u8; ROW_LIMIT], e: u16, server: bool, to: u16, hash: u16) -> bool
-    ensures { result ≡ answered_in file.now marks.now e server to hash }
+fn answered(file: &[u8], marks: &[u8; ROW_LIMIT], e: u16, role: Role, to: u16, hash: u16) -> bool
+    ensures { result ≡ answered_in file.now marks.now e (server_in role) to hash }
 {
     if hash < ROWS {
         closure::row_marked(marks, hash)
     } else {
-        told_any(file, e, server, to, hash)
+        told_any(file, e, role, to, hash)
     }
 }
 
-// Whether h is the Finished of one side with these parts.
-fn said_finished(
-    file: &[u8],
-    h: Heard,
-    server: bool,
-    from: u16,
-    to: u16,
-    sid: u16,
-    a: u16,
-    b: u16,
-    m: u16,
-    na: u16,
-    nb: u16,
-) -> bool
-    ensures { result ≡ said_finished file.now h server from to sid a b m na nb }
-{
-    let said = earlier::said_by(h, from, to);
-    if said {
-        let own = forms::under_key(file, h.row, server);
-        if own {
-            let f = forms::finished(file, h.row);
-            let side = forms::on_side(server, f.server);
-            return (f.is)
-                & (f.sid == sid)
-                & (f.a == a)
-                & (f.b == b)
-                & (f.m == m)
-                & (f.na == na)
-                & (f.nb == nb)
-                & side;
-        }
-    }
-    false
-}
-
-// Whether event i is that Finished, and the other side's was told. It is read whole only where its hash was told.
+// Whether event i is the Finished of one side, and the other side's was told. It is read whole only
+// where its hash was told.
+#[tactic(auto, unfolding(forms::specs::Forms::sealed_of))]
 fn agreed_at(
     file: &[u8],
-    boxes: &[u16; BOX_ROOM],
+    boxes: &Boxes,
     marks: &[u8; ROW_LIMIT],
     e: u16,
     i: u16,
-    server: bool,
-    from: u16,
-    to: u16,
-    sid: u16,
-    a: u16,
-    b: u16,
-    m: u16,
-    na: u16,
-    nb: u16,
+    by: Side,
+    s: Session,
 ) -> bool
-    ensures { result ≡ agreed_in file.now boxes.now marks.now e server from to sid a b m na nb i }
+    ensures { result ≡ agreed_in file.now boxes.now marks.now e by s i }
 {
-    let h = earlier::hear(file, i);
-    let said = earlier::said_by(h, from, to);
-    if said {
-        let seal = earlier::boxes::sealed(boxes, server, i);
-        if 0 < seal {
-            let c = forms::leaves::crypt_of(file, h.row);
-            let told = answered(file, marks, e, !server, from, c.second);
-            if told {
-                return said_finished(file, h, server, from, to, sid, a, b, m, na, nb);
-            }
-        }
+    let event = trace::event_at(file, EventNo(i));
+    let Event::Says(from, to, row) = event else {
+        return false;
+    };
+    let seal = sealed(boxes, by.role, i);
+    if from.0 != by.from || to.0 != by.to || seal == 0 {
+        return false;
     }
-    false
+    let Some(c) = forms::leaves::crypt_of(file, row.0) else {
+        return false;
+    };
+    let told = answered(file, marks, e, other(by.role), by.from, c.body);
+    told && said_finished(file, event, by, s)
 }
 
 fn agreed_any(
     file: &[u8],
-    boxes: &[u16; BOX_ROOM],
+    boxes: &Boxes,
     marks: &[u8; ROW_LIMIT],
     e: u16,
-    server: bool,
-    from: u16,
-    to: u16,
-    sid: u16,
-    a: u16,
-    b: u16,
-    m: u16,
-    na: u16,
-    nb: u16,
+    by: Side,
+    s: Session,
 ) -> bool
-    ensures { result ≡
-        some (agreed_in file.now boxes.now marks.now e server from to sid a b m na nb) (chain_from boxes.now (latest_to boxes.now to)) }
+    ensures { result ≡ some (agreed_in file.now boxes.now marks.now e by s)
+        (chain_from boxes.now (latest_to boxes.now by.to)) }
 {
-    let mut link = earlier::boxes::latest_to(boxes, to);
-    while 0 < link {
-        let i = link - 1;
-        let found = agreed_at(
-            file, boxes, marks, e, i, server, from, to, sid, a, b, m, na, nb,
-        );
-        if found {
-            return true;
-        }
-        link = earlier::boxes::next(boxes, link);
-    }
-    false
+    events_to(boxes, by.to).any(|i| agreed_at(file, boxes, marks, e, i, by, s))
 }
 
 // One side said its Finished to the other, and was told the other's, with the same hash. Two passes:
 // the hashes that were told are marked first.
-fn both_finished(
-    file: &[u8],
-    boxes: &[u16; BOX_ROOM],
-    e: u16,
-    server: bool,
-    from: u16,
-    to: u16,
-    sid: u16,
-    a: u16,
-    b: u16,
-    m: u16,
-    na: u16,
-    nb: u16,
-) -> bool
-    ensures { result ≡ both_in file.now boxes.now e server from to sid a b m na nb }
+#[tactic(auto, unfolding(crate::specs::Hashes::both_in))]
+fn both_finished(file: &[u8], boxes: &Boxes, e: u16, by: Side, s: Session) -> bool
+    ensures { result ≡ both_in file.now boxes.now e by s }
 {
     let mut marks = [0u8; ROW_LIMIT];
-    mark_told(file, boxes, &mut marks, !server, from);
-    agreed_any(
-        file, boxes, &marks, e, server, from, to, sid, a, b, m, na, nb,
-    )
+    mark_told(file, boxes, &mut marks, other(by.role), by.from);
+    agreed_any(file, boxes, &marks, e, by, s)
 }
 
-// A's note of a session with B, whose M is p.
-fn noted_by_client(h: Heard, n: Remembered, p: Three) -> bool
-    ensures { result ≡ (n.is && eqb n.a h.from && p.is) }
+// The session that a row remembers, whose M is a PRF, and the secret of that M.
+fn session_note(file: &[u8], row: u16) -> Option<(Session, u16)>
+    ensures { result ≡ remembers file.now row }
 {
-    (n.is) & (n.a == h.from) & (p.is)
-}
-
-// B's note of a session with A, another agent, whose M is p.
-fn noted_by_server(h: Heard, n: Remembered, p: Three) -> bool
-    ensures { result ≡ (n.is && eqb n.b h.from && not (eqb n.a n.b) && p.is) }
-{
-    (n.is) & (n.b == h.from) & (!(n.a == n.b)) & (p.is)
+    let n = forms::session_note(file, row)?;
+    let p = forms::leaves::prf_of(file, n.m)?;
+    let session = Session {
+        sid: n.sid,
+        a: n.a,
+        b: n.b,
+        m: n.m,
+        na: p.na,
+        nb: p.nb,
+    };
+    Some((session, p.secret))
 }
 
 // Rule 10: ClientAccepts.
-pub fn client_accepts(file: &[u8], boxes: &[u16; BOX_ROOM], e: u16, h: Heard) -> bool
-    ensures { result ≡ client_accepts file.now (found file.now boxes.now) (both_in file.now boxes.now e) h }
+#[tactic(auto, unfolding(crate::specs::Tests::client_accepts))]
+pub fn client_accepts(file: &[u8], boxes: &Boxes, e: u16, event: Event) -> bool
+    ensures { result ≡ client_accepts file.now (found file.now boxes.now)
+        (both_in file.now boxes.now e) (heard_in event) }
 {
-    if !h.says {
-        let n = forms::session_note(file, h.row);
-        let p = forms::leaves::prf_of(file, n.m);
-        let fits = noted_by_client(h, n, p);
-        if fits {
-            let secret = earlier::happened(file, boxes, Wanted::Secret(h.from, n.b, p.first));
-            if secret {
-                return both_finished(
-                    file, boxes, e, false, n.a, n.b, n.sid, n.a, n.b, n.m, p.second, p.third,
-                );
-            }
-        }
-    }
-    false
+    let Event::Notes(by, row) = event else {
+        return false;
+    };
+    let Some((s, secret)) = session_note(file, row.0) else {
+        return false;
+    };
+    let client = Side {
+        role: Role::Client,
+        from: s.a,
+        to: s.b,
+    };
+    s.a == by.0
+        && earlier::happened(file, boxes, Wanted::Secret(by.0, s.b, secret))
+        && both_finished(file, boxes, e, client, s)
 }
 
 // Rule 11: ServerAccepts.
-pub fn server_accepts(file: &[u8], boxes: &[u16; BOX_ROOM], e: u16, h: Heard) -> bool
-    ensures { result ≡ server_accepts file.now (found file.now boxes.now) (both_in file.now boxes.now e) h }
+#[tactic(auto, unfolding(crate::specs::Tests::server_accepts))]
+pub fn server_accepts(file: &[u8], boxes: &Boxes, e: u16, event: Event) -> bool
+    ensures { result ≡ server_accepts file.now (found file.now boxes.now)
+        (both_in file.now boxes.now e) (heard_in event) }
 {
-    if !h.says {
-        let n = forms::session_note(file, h.row);
-        let p = forms::leaves::prf_of(file, n.m);
-        let fits = noted_by_server(h, n, p);
-        if fits {
-            let sent = earlier::happened(file, boxes, Wanted::Sent(h.from, p.first));
-            if sent {
-                return both_finished(
-                    file, boxes, e, true, n.b, n.a, n.sid, n.a, n.b, n.m, p.second, p.third,
-                );
-            }
-        }
-    }
-    false
+    let Event::Notes(by, row) = event else {
+        return false;
+    };
+    let Some((s, secret)) = session_note(file, row.0) else {
+        return false;
+    };
+    let server = Side {
+        role: Role::Server,
+        from: s.b,
+        to: s.a,
+    };
+    let fits = s.b == by.0 && s.a != s.b;
+    fits && earlier::happened(file, boxes, Wanted::Sent(by.0, secret))
+        && both_finished(file, boxes, e, server, s)
 }

@@ -30,6 +30,7 @@ const FAR: u16 = 65535;
 
 // The heads of the boxes; of each event the link to the one before it in its box, the hash of its Finished as a
 // client's and as a server's, and its card; and the slots.
+#[derive(Drop)]
 pub struct Boxes {
     heads: [u16; BOXES],
     links: [u16; EVENT_LIMIT],
@@ -85,14 +86,14 @@ fn box_for(wanted: Wanted) -> Option<u16>
 }
 
 // The latest event that was said to an agent: one more than its number, or 0.
-pub fn latest_to(boxes: &Boxes, to: u16) -> u16
+fn latest_to(boxes: &Boxes, to: u16) -> u16
     ensures { result ≡ latest_to boxes.now to }
 {
-    boxes.heads[(to % AGENTS) as usize]
+    boxes.heads[usize::from(to % AGENTS)]
 }
 
 // The next link of a chain. It falls, so that every walk ends, whatever the links are.
-pub fn next(boxes: &Boxes, link: u16) -> u16
+fn next(boxes: &Boxes, link: u16) -> u16
     ensures { result ≡ next boxes.now link }
 {
     if EVENTS < link {
@@ -101,7 +102,7 @@ pub fn next(boxes: &Boxes, link: u16) -> u16
     if link == 0 {
         return 0;
     }
-    let l = boxes.links[(link - 1) as usize];
+    let l = boxes.links[usize::from(link - 1)];
     if l < link { l } else { 0 }
 }
 
@@ -110,7 +111,7 @@ fn fits(file: &[u8], boxes: &Boxes, wanted: Wanted, j: u16) -> bool
     ensures { result ≡ fits_at file.now boxes.now wanted j }
 {
     j < EVENTS
-        && cards::fits_card(wanted, boxes.cards[j as usize])
+        && cards::fits_card(wanted, boxes.cards[usize::from(j)])
         && cards::fits_agents(wanted, trace::event_at(file, EventNo(j)))
 }
 
@@ -178,7 +179,7 @@ pub fn happened(file: &[u8], boxes: &Boxes, wanted: Wanted) -> bool
     ensures { result ≡ found file.now boxes.now wanted }
 {
     match box_for(wanted) {
-        Some(b) => search(file, boxes, wanted, boxes.heads[b as usize]),
+        Some(b) => search(file, boxes, wanted, boxes.heads[usize::from(b)]),
         None => search_all(file, boxes, wanted),
     }
 }
@@ -223,8 +224,8 @@ pub fn sealed(boxes: &Boxes, role: Role, e: u16) -> u16
         return 0;
     }
     match role {
-        Role::Client => boxes.clients[e as usize],
-        Role::Server => boxes.servers[e as usize],
+        Role::Client => boxes.clients[usize::from(e)],
+        Role::Server => boxes.servers[usize::from(e)],
     }
 }
 
@@ -234,11 +235,11 @@ fn box_event(file: &[u8], boxes: &mut Boxes, e: u16, event: Event)
     requires heard { heard_in event ≡ heard_at file.now e }
     ensures { boxes.new ≡ boxed_in file.now boxes.old e }
 {
-    let b = box_of(event) as usize;
+    let b = usize::from(box_of(event));
     let slot = slot_of(event);
     let again = is_again(file, e, boxes.slots[slot], event);
     if !again {
-        boxes.links[e as usize] = boxes.heads[b];
+        boxes.links[usize::from(e)] = boxes.heads[b];
         boxes.heads[b] = e + 1;
         boxes.slots[slot] = e + 1;
     }
@@ -261,8 +262,8 @@ pub fn keep(file: &[u8], boxes: &mut Boxes, e: u16)
         let event = trace::event_at(file, EventNo(e));
         let (client, server) = seals_of(file, row_of(event));
         box_event(file, boxes, e, event);
-        boxes.clients[e as usize] = client;
-        boxes.servers[e as usize] = server;
-        boxes.cards[e as usize] = cards::card_of(file, event);
+        boxes.clients[usize::from(e)] = client;
+        boxes.servers[usize::from(e)] = server;
+        boxes.cards[usize::from(e)] = cards::card_of(file, event);
     }
 }

@@ -3,7 +3,7 @@
 
 ghost use Rattle.std.specs.Prelude.{◌≡◌};
 ghost use Rattle.trace.specs.Tests.{event_fits, bad_event};
-ghost use Rattle.laws.specs.First.{first};
+ghost use Rattle.laws.specs.First.{found};
 
 use trace::events::{Parts, parts_at};
 use trace::limits::AGENTS;
@@ -21,17 +21,9 @@ fn event_fits(p: Parts, rows: u16) -> bool
         & (p.rest == 0)
 }
 
-// The lowest event that is not well formed, or `events`.
-pub fn first_bad_event(file: &[u8], rows: u16, events: u16) -> u16
-    ensures { result ≡ first (bad_event file.now rows) events }
+// The lowest event that is not well formed.
+pub fn first_bad_event(file: &[u8], rows: u16, events: u16) -> Option<u16>
+    ensures { result ≡ found (bad_event file.now rows) events }
 {
-    let mut e: u16 = 0;
-    while e < events {
-        let fits = event_fits(parts_at(file, e), rows);
-        if !fits {
-            return e;
-        }
-        e += 1;
-    }
-    e
+    (0..events).find(|&e| !event_fits(parts_at(file, e), rows))
 }

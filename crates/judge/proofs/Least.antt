@@ -34,6 +34,8 @@ use Rattle.rules.specs.Tests.{fake, spy_keys, client_hello, server_hello, certif
 use Rattle.rules.proofs.Steps.{Rights, fake_sound, fake_complete, spy_keys_sound, spy_keys_complete, client_hello_sound, client_hello_complete, server_hello_sound, server_hello_complete, certificate_sound, certificate_complete, oops_sound, oops_complete}
 use Rattle.rules.proofs.Answers.{cert_verify_sound, cert_verify_complete, key_exchange_sound, key_exchange_complete}
 use Rattle.finished.specs.Tests.{client_finished, server_finished, client_resume, server_resume}
+use Rattle.accepts.specs.declared.Session.{Session}
+use Rattle.accepts.specs.declared.Side.{Side}
 use Rattle.accepts.specs.Tests.{both_finished, client_accepts, server_accepts}
 use Rattle.finished.proofs.Finishes.{client_finished_sound, client_finished_complete, server_finished_sound, server_finished_complete, client_resume_sound, client_resume_complete, server_resume_sound, server_resume_complete}
 use Rattle.accepts.proofs.Accepts.{client_accepts_sound, client_accepts_complete, server_accepts_sound, server_accepts_complete}
@@ -114,7 +116,7 @@ unfolding crypt_of session_of
 no_session file r c = not_session (row_at file r) c
 
 -- the tests in order, whatever the event is
-module _ (file used known : List ℕ) (find : Wanted → Bool) (both : Bool → (from to sid a b m na nb : ℕ) → Bool) (h : Heard) where
+module _ (file used known : List ℕ) (find : Wanted → Bool) (both : Side → Session → Bool) (h : Heard) where
   unfoldable in_order : ℕ
   in_order =
       choose (fake file known h) 1 (choose (spy_keys file known h) 2 (choose (client_hello file used h) 3

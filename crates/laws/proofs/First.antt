@@ -1,6 +1,6 @@
 -- `first` is the lowest number that the test finds, and `any` says whether there is one.
 -- Assumes nothing.
-use Prim.Native.Nat.{ℕ, zero, suc, ◌<◌}
+use Prim.Native.Nat.{ℕ, zero, suc, ◌<◌, ◌≤◌}
 use native.Mathlib.Omega.{arith}
 use native.Mathlib.Decide.{dec_lt}
 use mathlib.Core.Bool.{Bool, true, false, true≢false, ◌||◌}
@@ -8,8 +8,9 @@ use mathlib.Core.Logic.{◌⊎◌, inl, inr, ⊎_elim}
 use mathlib.Core.Path.{◌≡◌, refl, sym, ◌∙◌}
 use lib.Dec.{ltb}
 use borrow.Author.Tests.{lt-ltb, le-ltb}
+use Rattle.std.specs.Prelude.{Option, Some, None, MatchOption}
 use Rattle.laws.specs.Choose.{choose}
-use Rattle.laws.specs.First.{first, any}
+use Rattle.laws.specs.First.{first, found, any}
 
 pub lt_suc : (i n : ℕ) → i < suc n → (i < n) ⊎ (i ≡ n)
 lt_suc i n h = go (dec_lt i n)
@@ -38,6 +39,22 @@ module _ (p : ℕ → Bool) where
           let none : first p n ≡ n = first_none n (λ k k<. h k (omega arith)) in
           let t' : p n ≡ true = rw e at t in
           rw (none, le-ltb n n (omega arith), t') (sym e)
+
+  pub found_none : (n : ℕ) → ((k : ℕ) → k < n → p k ≡ false) → found p n ≡ None
+  unfolding found
+  found_none n h = rw (first_none n h, le-ltb n n (omega arith)) refl
+
+  pub found_some : (n i : ℕ) → i < n → ((k : ℕ) → k < i → p k ≡ false) → p i ≡ true → found p n ≡ Some i
+  unfolding found
+  found_some n i l h t = rw (first_found n i l h t, lt-ltb i n l) refl
+
+  -- what a search through the numbers below n gives
+  pub found_is : (n : ℕ) (r : Option ℕ) →
+      MatchOption r ((k : ℕ) → 0 ≤ k → k < n → p k ≡ false)
+          (λ i. (0 ≤ i) × (i < n) × (p i ≡ true) × ((k : ℕ) → 0 ≤ k → k < i → p k ≡ false)) →
+      r ≡ found p n
+  found_is n None h = sym (found_none n (λ k l. h k (omega arith) l))
+  found_is n (Some i) h = sym (found_some n i h.1 (λ k l. h.3 k (omega arith) l) h.2)
 
   pub any_none : (n : ℕ) → ((k : ℕ) → k < n → p k ≡ false) → any p n ≡ false
   unfolding any

@@ -29,11 +29,11 @@ fn same_fields(f: Fields, g: Fields) -> bool
 fn bucket(f: Fields) -> usize
     ensures { (result ≡ bucket_of f) × (result < buckets) }
 {
-    ((f.kind as usize) * 97
-        + (f.role as usize) * 31
-        + (f.first as usize) * 7
-        + (f.second as usize) * 61
-        + (f.third as usize) * 523)
+    (usize::from(f.kind) * 97
+        + usize::from(f.role) * 31
+        + usize::from(f.first) * 7
+        + usize::from(f.second) * 61
+        + usize::from(f.third) * 523)
         % BUCKETS
 }
 
@@ -41,7 +41,7 @@ fn bucket(f: Fields) -> usize
 fn tag(f: Fields) -> u32
     ensures { result ≡ tag_of f }
 {
-    (f.first as u32) + HALF * (f.second as u32)
+    u32::from(f.first) + HALF * u32::from(f.second)
 }
 
 // Whether the row has these fields. It is read only where its tag is theirs.

@@ -1,18 +1,18 @@
 -- A row passes its kind's test exactly when it keeps its kind's line.
 -- Assumes nothing.
 use Prim.Native.Nat.{ℕ, zero, suc, ◌<◌, ◌≤◌}
-use mathlib.Core.Bool.{true, true≢false, ◌&&◌}
+use mathlib.Core.Bool.{true, false, true≢false, ◌&&◌}
 use mathlib.Core.List.{List}
 use mathlib.Core.Path.{◌≡◌, refl, sym, ◌∙◌}
 use native.Mathlib.Omega.{arith}
 use lib.Dec.{eqb, ltb, leb}
 use borrow.Author.Tests.{eqb-true, ltb-true, leb-true, lt-ltb, le-leb}
+use Rattle.std.proofs.lemmas.Bool.Decides.{nat_tests}
 use Rattle.trace.specs.File.{agent_limit}
 use Rattle.trace.specs.Rows.{fields_at, kind_at, KeepsLine, Refers, Line, agent, number, nonce, prf, public, private, session, hash, crypt, pair}
-use Rattle.trace.specs.Tests.{nonce_below, key_below, three_nonces, agent_line, value_line, nonce_line, key_line, hash_line, crypt_line, pair_line, line_of, row_fits}
+use Rattle.trace.specs.Tests.{nonce_below, key_below, three_nonces, agent_line, value_line, prf_line, session_line, hash_line, crypt_line, pair_line, line_of, row_fits}
 use Rattle.trace.specs.declared.rows.Fields.{Fields}
 use Rattle.laws.proofs.Both.{both, both3, both4}
-use Rattle.trace.proofs.Lines.{line_agent, line_number, line_nonce, line_key, line_hash, line_crypt, line_pair, line_none}
 
 -- the kinds, and the numbers above them
 pub data Kind : ℕ → Type 0 where
@@ -94,56 +94,33 @@ module _ (file : List ℕ) (r : ℕ) where
         let h = both3 (nonce_below file r f.first) (nonce_below file r f.second) (nonce_below file r f.third) e in
         (refers 2 3 _ h.0, refers 2 3 _ h.1, refers 2 3 _ h.2)
 
-    prf_line : f.kind ≡ 3 → nonce_line file r f ≡ true → (f.role ≡ 0) × Three
-    prf_line e t =
-        let h = both (eqb f.role 0) (three_nonces file r f) (rw e at t) in
+    prf_line_lem : prf_line file r f ≡ true → (f.role ≡ 0) × Three
+    prf_line_lem e =
+        let h = both (eqb f.role 0) (three_nonces file r f) e in
         (eqb-true _ 0 h.0, three h.1)
 
-    plain_line : f.kind ≡ 2 → nonce_line file r f ≡ true → value_line f ≡ true
-    plain_line e t = rw e at t
-
-    -- public and private keys
-    asym_line : f.kind < 6 → key_line file r f ≡ true → agent_line f ≡ true
-    asym_line l t = rw (lt-ltb f.kind 6 l) at t
-
-    session_line : f.kind ≡ 6 → key_line file r f ≡ true → (f.role ≤ 1) × Three
-    session_line e t =
-        let h = both (leb f.role 1) (three_nonces file r f) (rw e at t) in
+    session_line_lem : session_line file r f ≡ true → (f.role ≤ 1) × Three
+    session_line_lem e =
+        let h = both (leb f.role 1) (three_nonces file r f) e in
         (leb-true _ 1 h.0, three h.1)
 
+    above : 9 < f.kind → line_of file r f ≡ false
+    unfolding line_of
+    above l = grind (arith, nat_tests)
+
     passes_keeps : {k : ℕ} → f.kind ≡ k → Kind k → line_of file r f ≡ true → Kept
-    passes_keeps e k0 t =
-        let h = agent_line_lem (sym (line_agent file r f e) ∙ t) in
-        rw (e, h.0, h.2, h.3) (agent h.1)
-    passes_keeps e k1 t =
-        let h = value_line_lem (sym (line_number file r f e) ∙ t) in
-        rw (e, h.0, h.1, h.2) number
-    passes_keeps e k2 t =
-        let h = value_line_lem (plain_line e (sym (line_nonce file r f (omega arith) (omega arith)) ∙ t)) in
-        rw (e, h.0, h.1, h.2) nonce
-    passes_keeps e k3 t =
-        let h = prf_line e (sym (line_nonce file r f (omega arith) (omega arith)) ∙ t) in
-        rw (e, h.0) (prf h.1.0 h.1.1 h.1.2)
-    passes_keeps e k4 t =
-        let h = agent_line_lem (asym_line (omega arith) (sym (line_key file r f (omega arith) (omega arith)) ∙ t)) in
-        rw (e, h.0, h.2, h.3) (public h.1)
-    passes_keeps e k5 t =
-        let h = agent_line_lem (asym_line (omega arith) (sym (line_key file r f (omega arith) (omega arith)) ∙ t)) in
-        rw (e, h.0, h.2, h.3) (private h.1)
-    passes_keeps e k6 t =
-        let h = session_line e (sym (line_key file r f (omega arith) (omega arith)) ∙ t) in
-        rw e (session h.0 h.1.0 h.1.1 h.1.2)
-    passes_keeps e k7 t =
-        let h = hash_line_lem (sym (line_hash file r f e) ∙ t) in
-        rw (e, h.0, h.2, h.3) (hash h.1)
-    passes_keeps e k8 t =
-        let h = crypt_line_lem (sym (line_crypt file r f e) ∙ t) in
-        rw (e, h.0, h.3) (crypt h.1 h.2)
-    passes_keeps e k9 t =
-        let h = pair_line_lem (sym (line_pair file r f e) ∙ t) in
-        rw (e, h.0, h.3) (pair h.1 h.2)
-    passes_keeps e (more l) t =
-        absurd (true≢false (sym t ∙ line_none file r f (omega arith) (omega arith) (omega arith) (omega arith)))
+    unfolding line_of
+    passes_keeps e k0 t = let h = agent_line_lem (rw e at t) in rw (e, h.0, h.2, h.3) (agent h.1)
+    passes_keeps e k1 t = let h = value_line_lem (rw e at t) in rw (e, h.0, h.1, h.2) number
+    passes_keeps e k2 t = let h = value_line_lem (rw e at t) in rw (e, h.0, h.1, h.2) nonce
+    passes_keeps e k3 t = let h = prf_line_lem (rw e at t) in rw (e, h.0) (prf h.1.0 h.1.1 h.1.2)
+    passes_keeps e k4 t = let h = agent_line_lem (rw e at t) in rw (e, h.0, h.2, h.3) (public h.1)
+    passes_keeps e k5 t = let h = agent_line_lem (rw e at t) in rw (e, h.0, h.2, h.3) (private h.1)
+    passes_keeps e k6 t = let h = session_line_lem (rw e at t) in rw e (session h.0 h.1.0 h.1.1 h.1.2)
+    passes_keeps e k7 t = let h = hash_line_lem (rw e at t) in rw (e, h.0, h.2, h.3) (hash h.1)
+    passes_keeps e k8 t = let h = crypt_line_lem (rw e at t) in rw (e, h.0, h.3) (crypt h.1 h.2)
+    passes_keeps e k9 t = let h = pair_line_lem (rw e at t) in rw (e, h.0, h.3) (pair h.1 h.2)
+    passes_keeps e (more l) t = absurd (true≢false (sym t ∙ above (omega arith)))
 
   keeps_passes : {k o a b c : ℕ} → Line file r k o a b c → line_of file r (five k o a b c) ≡ true
   unfolding line_of

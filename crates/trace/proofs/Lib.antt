@@ -1,5 +1,4 @@
 pub mod Causes
-pub mod Lines
 pub mod Same
 pub mod Fits
 pub mod Contents

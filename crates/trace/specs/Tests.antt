@@ -52,11 +52,11 @@ agent_line f = eqb f.role 0 && ltb f.first agent_limit && eqb f.second 0 && eqb 
 abbrev pub value_line : Fields → Bool
 value_line f = eqb f.role 0 && eqb f.second 0 && eqb f.third 0
 
-abbrev pub nonce_line : List ℕ → ℕ → Fields → Bool
-nonce_line file r f = choose (eqb f.kind 2) (value_line f) (eqb f.role 0 && three_nonces file r f)
+abbrev pub prf_line : List ℕ → ℕ → Fields → Bool
+prf_line file r f = eqb f.role 0 && three_nonces file r f
 
-abbrev pub key_line : List ℕ → ℕ → Fields → Bool
-key_line file r f = choose (ltb f.kind 6) (agent_line f) (leb f.role 1 && three_nonces file r f)
+abbrev pub session_line : List ℕ → ℕ → Fields → Bool
+session_line file r f = leb f.role 1 && three_nonces file r f
 
 abbrev pub hash_line : ℕ → Fields → Bool
 hash_line r f = eqb f.role 0 && ltb f.first r && eqb f.second 0 && eqb f.third 0
@@ -71,12 +71,15 @@ unfoldable pub line_of : List ℕ → ℕ → Fields → Bool
 line_of file r f =
     choose (eqb f.kind 0) (agent_line f)
     (choose (eqb f.kind 1) (value_line f)
-    (choose (leb f.kind 3) (nonce_line file r f)
-    (choose (leb f.kind 6) (key_line file r f)
+    (choose (eqb f.kind 2) (value_line f)
+    (choose (eqb f.kind 3) (prf_line file r f)
+    (choose (eqb f.kind 4) (agent_line f)
+    (choose (eqb f.kind 5) (agent_line f)
+    (choose (eqb f.kind 6) (session_line file r f)
     (choose (eqb f.kind 7) (hash_line r f)
     (choose (eqb f.kind 8) (crypt_line file r f)
     (choose (eqb f.kind 9) (pair_line r f)
-    false))))))
+    false)))))))))
 
 abbrev pub row_fits : List ℕ → ℕ → Bool
 row_fits file r = line_of file r (fields_at file r)

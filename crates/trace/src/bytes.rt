@@ -1,33 +1,45 @@
-// Bytes and words of the file. A byte past the end reads as 0, so a reader needs no bound.
-ghost use Rattle.std.specs.Prelude.{◌≡◌, ◌<◌, ◌+◌, length};
-ghost use Rattle.trace.specs.File.{byte, word};
+// Bytes of the file. A byte past the end reads as 0, so a reader needs no bound.
+ghost use Rattle.std.specs.Prelude.{◌≡◌, ◌<◌, ℕ, List};
+ghost use Rattle.trace.specs.File.{byte, word, ItemAt};
 
-pub fn byte_at(file: &[u8], at: usize) -> u16
-    ensures { (result ≡ byte file.now at) × (result < 256) }
+use super::limits::ITEM;
+
+pub fn byte_at(file: &[u8], at: usize) -> u8
+    ensures { result ≡ byte file.now at }
 {
-    if at < file.len() { file[at] as u16 } else { 0 }
+    file.get(at).map_or(0, |&b| b)
 }
 
 // Positions stay far below where the next one could wrap.
+#[tactic(auto, unfolding(crate::specs::File::word))]
 pub fn word_at(file: &[u8], at: usize) -> u16
     requires { at < 2000000 }
     ensures { result ≡ word file.now at }
 {
-    byte_at(file, at) + 256 * byte_at(file, at + 1)
+    u16::from_le_bytes([byte_at(file, at), byte_at(file, at + 1)])
 }
 
-// The same where the file is known to reach so far, without a test of the bound.
-pub fn byte_in(file: &[u8], at: usize) -> u16
-    requires { at < length file.now }
-    ensures { (result ≡ byte file.now at) × (result < 256) }
+// The same for a row or an event that the file may end before.
+fn padded(file: &[u8], at: usize) -> [u8; ITEM]
+    requires { at < 2000000 }
+    ensures { ItemAt file.now at result }
 {
-    file[at] as u16
+    let mut item = [0; ITEM];
+    for (k, b) in item.iter_mut().enumerate() {
+        *b = byte_at(file, at + k);
+    }
+    item
 }
 
-pub fn word_in(file: &[u8], at: usize) -> u16
-    requires at_bound { at < 2000000 }
-    requires at_in_bounds { at + 1 < length file.now }
-    ensures { result ≡ word file.now at }
+// What is read from the eight bytes of a row or an event: by one test of the bound, where the file has them all.
+pub fn read_item<T, F: FnOnce([u8; ITEM]) -> T>(file: &[u8], at: usize, read: F) -> T
+    requires in_range { at < 2000000 }
+    requires callable { F.IsAlwaysCallable read }
+    ensures { (item : List ℕ) × ItemAt file.now at item × F.post read item result }
 {
-    byte_in(file, at) + 256 * byte_in(file, at + 1)
+    if let Some([a, b, c, d, e, f, g, h]) = file.get(at..at + ITEM) {
+        read([*a, *b, *c, *d, *e, *f, *g, *h])
+    } else {
+        read(padded(file, at))
+    }
 }

@@ -1,12 +1,12 @@
 // Events: the parts of each, and what the event is.
 ghost use Rattle.std.specs.Prelude.{◌≡◌};
-ghost use Rattle.trace.specs.Events.{parts_at, event_of};
+ghost use Rattle.trace.specs.Events.{parts_of, parts_at, event_of};
 
 use super::header::rows_of;
 use super::limits::{ITEM, ROWS_AT};
 use super::{AgentNo, Event, RowNo, bytes};
 
-#[derive(Clone, Copy)]
+#[derive(Clone, Copy, PartialEq, Eq, Debug)]
 pub struct Parts {
     pub kind: u16,
     pub sender: u16,
@@ -16,30 +16,28 @@ pub struct Parts {
     pub rest: u16,
 }
 
-// One test of the bound for the eight bytes; an event past the end of the file has zeros there.
+#[tactic(auto, unfolding(crate::specs::File::word))]
+fn parts_of(item: [u8; ITEM]) -> Parts
+    ensures { result ≡ parts_of item }
+{
+    let [kind, sender, receiver, zero, a, b, c, d] = item;
+    Parts {
+        kind: u16::from(kind),
+        sender: u16::from(sender),
+        receiver: u16::from(receiver),
+        zero: u16::from(zero),
+        row: u16::from_le_bytes([a, b]),
+        rest: u16::from_le_bytes([c, d]),
+    }
+}
+
+// An event past the end of the file has zeros there.
+#[tactic(auto, unfolding(crate::specs::File::word))]
 pub fn parts_at(file: &[u8], e: u16) -> Parts
     ensures { result ≡ parts_at file.now e }
 {
-    let rows = rows_of(file);
-    let at = ROWS_AT + ITEM * (rows as usize) + ITEM * (e as usize);
-    if at + ITEM <= file.len() {
-        return Parts {
-            kind: bytes::byte_in(file, at),
-            sender: bytes::byte_in(file, at + 1),
-            receiver: bytes::byte_in(file, at + 2),
-            zero: bytes::byte_in(file, at + 3),
-            row: bytes::word_in(file, at + 4),
-            rest: bytes::word_in(file, at + 6),
-        };
-    }
-    Parts {
-        kind: bytes::byte_at(file, at),
-        sender: bytes::byte_at(file, at + 1),
-        receiver: bytes::byte_at(file, at + 2),
-        zero: bytes::byte_at(file, at + 3),
-        row: bytes::word_at(file, at + 4),
-        rest: bytes::word_at(file, at + 6),
-    }
+    let at = ROWS_AT + ITEM * usize::from(rows_of(file)) + ITEM * usize::from(e);
+    bytes::read_item(file, at, parts_of)
 }
 
 pub(crate) fn event_of(p: Parts) -> Event

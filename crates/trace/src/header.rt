@@ -4,13 +4,13 @@ ghost use Rattle.trace.specs.File.{rows_of, compromised_in};
 ghost use Rattle.trace.specs.Tests.{header_of};
 
 use super::bytes;
-use super::limits::{AGENTS, ROWS_AT};
+use super::limits::AGENTS;
 
 const SET_AT: usize = 4;
 
 const ROW_COUNT_AT: usize = 14;
 
-#[derive(Clone, Copy)]
+#[derive(Clone, Copy, PartialEq, Eq, Debug)]
 pub struct Header {
     pub version: u16,
     pub reserved: u16,
@@ -20,20 +20,10 @@ pub struct Header {
     pub events: u16,
 }
 
-// One test of the bound; a shorter file has zeros past its end.
+// A shorter file has zeros past its end.
 pub fn header_of(file: &[u8]) -> Header
     ensures { result ≡ header_of file.now }
 {
-    if ROWS_AT <= file.len() {
-        return Header {
-            version: bytes::word_in(file, 0),
-            reserved: bytes::word_in(file, 2),
-            rows_at: bytes::word_in(file, 12),
-            rows: bytes::word_in(file, 14),
-            events_at: bytes::word_in(file, 16),
-            events: bytes::word_in(file, 18),
-        };
-    }
     Header {
         version: bytes::word_at(file, 0),
         reserved: bytes::word_at(file, 2),
@@ -54,6 +44,6 @@ pub(crate) fn rows_of(file: &[u8]) -> u16
 pub(crate) fn compromised(file: &[u8], agent: u16) -> bool
     ensures { result ≡ compromised_in file.now agent }
 {
-    let set = bytes::byte_at(file, SET_AT + ((agent / 8) as usize));
+    let set = bytes::byte_at(file, SET_AT + (usize::from(agent / 8)));
     (agent < AGENTS) & ((set >> (agent % 8)) % 2 == 1)
 }

@@ -21,16 +21,16 @@ ghost use Rattle.trace.specs.Spans.{event_span, fault_of, within};
 #[derive(Clone, Copy, PartialEq, Eq, Debug)]
 pub struct RowNo(pub u16);
 
-#[derive(Clone, Copy)]
+#[derive(Clone, Copy, PartialEq, Eq, Debug)]
 pub struct EventNo(pub u16);
 
 #[derive(Clone, Copy, PartialEq, Eq, Debug)]
 pub struct AgentNo(pub u16);
 
-#[derive(Clone, Copy)]
+#[derive(Clone, Copy, PartialEq, Eq, Debug)]
 pub struct NumberValue(pub u16);
 
-#[derive(Clone, Copy)]
+#[derive(Clone, Copy, PartialEq, Eq, Debug)]
 pub struct NonceValue(pub u16);
 
 #[derive(Clone, Copy, PartialEq, Eq, Debug)]
@@ -40,7 +40,7 @@ pub enum Role {
 }
 
 // A row by its kind; the references are row numbers.
-#[derive(Clone, Copy)]
+#[derive(Clone, Copy, PartialEq, Eq, Debug)]
 pub enum Row {
     Agent(AgentNo),
     Number(NumberValue),
@@ -61,7 +61,7 @@ pub enum Event {
 }
 
 // Why a question is refused: the table of document 01, in its order.
-#[derive(Clone, Copy)]
+#[derive(Clone, Copy, PartialEq, Eq, Debug)]
 pub enum Cause {
     TooShort,
     WrongVersion,
@@ -74,14 +74,8 @@ pub enum Cause {
     TooManyEvents,
 }
 
-#[derive(Clone, Copy)]
-pub enum Reading {
-    Refused(Cause),
-    Readable,
-}
-
 // Where a part of the file starts, and how long it is.
-#[derive(Clone, Copy)]
+#[derive(Clone, Copy, PartialEq, Eq, Debug)]
 pub struct Span {
     pub start: usize,
     pub size: usize,
@@ -108,15 +102,9 @@ pub fn place(cause: Cause) -> u16
     ensures { result ≡ place_of cause }
 {
     match cause {
-        Cause::BadRow(r) => r.0,
-        Cause::RepeatedRow(r) => r.0,
+        Cause::BadRow(r) | Cause::RepeatedRow(r) => r.0,
         Cause::BadEvent(e) => e.0,
-        Cause::TooShort => 0,
-        Cause::WrongVersion => 0,
-        Cause::WrongSet => 0,
-        Cause::WrongContents => 0,
-        Cause::ShortBuffer => 0,
-        Cause::TooManyEvents => 0,
+        _ => 0,
     }
 }
 
@@ -170,15 +158,9 @@ pub fn span_at_fault(file: &[u8], cause: Cause) -> Span
     ensures { result ≡ fault_of file.now cause }
 {
     match cause {
-        Cause::BadRow(r) => parts::row_span(file, r.0),
-        Cause::RepeatedRow(r) => parts::row_span(file, r.0),
+        Cause::BadRow(r) | Cause::RepeatedRow(r) => parts::row_span(file, r.0),
         Cause::BadEvent(e) => parts::event_span(file, e.0),
-        Cause::TooShort => parts::no_span(),
-        Cause::WrongVersion => parts::no_span(),
-        Cause::WrongSet => parts::no_span(),
-        Cause::WrongContents => parts::no_span(),
-        Cause::ShortBuffer => parts::no_span(),
-        Cause::TooManyEvents => parts::no_span(),
+        _ => no_span(),
     }
 }
 
@@ -186,11 +168,9 @@ pub fn span_at_fault(file: &[u8], cause: Cause) -> Span
 pub fn part(file: &[u8], span: Span) -> &[u8]
     ensures { Part file.entry (within file.now span) result }
 {
-    let there = parts::ends_within(span, file.len());
-    if there {
-        let start = span.start;
-        let end = start + span.size;
-        return &file[start..end];
+    if parts::ends_within(span, file.len()) {
+        &file[span.start..span.start + span.size]
+    } else {
+        &file[..0]
     }
-    &file[0..0]
 }

@@ -18,33 +18,34 @@ fn eight_at(file: &[u8], at: usize) -> Span
     ensures { result ≡ eight_at file.now at }
 {
     if at + ITEM <= file.len() {
-        return Span {
+        Span {
             start: at,
             size: ITEM,
-        };
+        }
+    } else {
+        no_span()
     }
-    no_span()
 }
 
 pub fn row_span(file: &[u8], r: u16) -> Span
     ensures { result ≡ row_span file.now r }
 {
-    eight_at(file, ROWS_AT + ITEM * (r as usize))
+    eight_at(file, ROWS_AT + ITEM * usize::from(r))
 }
 
 pub fn event_span(file: &[u8], e: u16) -> Span
     ensures { result ≡ event_span file.now e }
 {
     let rows = rows_of(file);
-    eight_at(file, ROWS_AT + ITEM * (rows as usize) + ITEM * (e as usize))
+    eight_at(
+        file,
+        ROWS_AT + ITEM * usize::from(rows) + ITEM * usize::from(e),
+    )
 }
 
 // Whether a file of len bytes is long enough; the sum of start and size could wrap.
 pub fn ends_within(span: Span, len: usize) -> bool
     ensures { result ≡ leb (span.start + span.size) len }
 {
-    if len < span.start {
-        return false;
-    }
-    span.size <= len - span.start
+    span.start <= len && span.size <= len - span.start
 }

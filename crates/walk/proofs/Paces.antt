@@ -15,13 +15,15 @@ use Rattle.trace.specs.Events.{event_at}
 use Rattle.closure.specs.Closure.{key_room, see_event, start_keys, start_rows, zeros}
 use Rattle.closure.proofs.Folds.{known_start, known_more}
 use Rattle.used.specs.Marking.{use_event, used_after}
-use Rattle.earlier.specs.declared.Heard.{Heard}
+use Rattle.earlier.specs.Heard.{Heard}
 use Rattle.earlier.specs.declared.Wanted.{Wanted}
 use Rattle.earlier.specs.Earlier.{heard_at, past}
 use Rattle.earlier.specs.Boxes.{found}
 use Rattle.earlier.specs.Kept.{kept_in, Boxed}
 use Rattle.earlier.proofs.Keeping.{keep_boxed}
 use Rattle.earlier.proofs.Finding.{found_past}
+use Rattle.accepts.specs.declared.Session.{Session}
+use Rattle.accepts.specs.declared.Side.{Side}
 use Rattle.accepts.specs.Hashes.{both_in}
 use Rattle.accepts.proofs.Hashes.{both_past}
 use Rattle.rules.specs.Tests.{key_exchange}
@@ -155,33 +157,6 @@ module _ (rule : ℕ → ℕ) (exchange : ℕ → Bool) (N : ℕ) where
       let t : ltb 0 (rule i) ≡ false = ap (ltb 0) (sym e) ∙ le-ltb 0 k l in
       (rw (t, lt-ltb (suc i) N s, x) refl, rw (t, lt-ltb (suc i) N s, x) refl)
 
--- the arrays before the first event, and after one more
-pub before_first : (file rs₀ ks₀ rs ks bs : List ℕ) → rs₀ ≡ zeros row_limit → ks₀ ≡ zeros key_room → ks ≡ start_keys file agent_limit ks₀ →
-    rs ≡ start_rows file (start_keys file agent_limit ks₀) (rows_of file) rs₀ → (us : List ℕ) → us ≡ zeros row_limit → Boxed file bs 0 → Before file 0 us rs ks bs
-unfolding used_after
-before_first file rs₀ ks₀ rs ks bs er ek k r us u x =
-    let s = known_start file rs₀ ks₀ rs ks er ek k r in
-    record { uses = u; sees = s.0; opens = s.1; kept = x }
-
-pub before_more : (file : List ℕ) (e : ℕ) (us rs ks bs us' rs' ks' bs' : List ℕ) → e < event_limit → Before file e us rs ks bs →
-    us' ≡ use_event file us (event_at file e) →
-    (rs' ≡ (see_event file rs ks (event_at file e)).rows) × (ks' ≡ (see_event file rs ks (event_at file e)).keys) →
-    bs' ≡ kept_in file bs e → Before file (suc e) us' rs' ks' bs'
-unfolding used_after
-before_more file e us rs ks bs us' rs' ks' bs' l b u s k' =
-    let k = known_more file e rs ks rs' ks' (b.sees, b.opens) s in
-    let one : e + 1 ≡ suc e = omega arith in
-    record { uses = rw (← b.uses) u; sees = rw one at k.0; opens = rw one at k.1; kept = rw k' (keep_boxed file bs e b.kept l) }
-
--- what an event teaches makes nothing forgotten
-pub rows_kept : (file : List ℕ) (e : ℕ) (rs ks : List ℕ) {rs' : List ℕ} → rs' ≡ (see_event file rs ks (event_at file e)).rows → Kept rs rs'
-rows_kept file e rs ks q = subst (Kept rs) (sym q) (see_kept file rs ks (event_at file e))
-
-pub before_next : (file : List ℕ) (i : ℕ) {us rs ks bs : List ℕ} → Before file (suc i) us rs ks bs → Before file (i + 1) us rs ks bs
-before_next file i {us} {rs} {ks} {bs} b =
-    let e : suc i ≡ i + 1 = omega arith in
-    subst (λ (m : ℕ). Before file m us rs ks bs) e b
-
 -- the cleared buffer
 pub cleared_length : (n : ℕ) (bytes : List ℕ) → length (cleared n bytes) ≡ length bytes
 unfolding cleared
@@ -197,57 +172,6 @@ pub cleared_more : (i : ℕ) (bytes bs bs' : List ℕ) → bs ≡ cleared i byte
 unfolding cleared
 cleared_more i bytes bs bs' e q = rw (add-one, ← e) q
 
-module _ (file : List ℕ) (N i : ℕ) {us rs ks bs : List ℕ} (b : Before file i us rs ks bs) {h : Heard} (eh : h ≡ heard_at file i) {k : ℕ}
-    (ek : k ≡ lowest_rule file us rs (found file bs) (both_in file bs i) h) where
-  finds : found file bs ≡ past file i
-  finds = found_past file bs i b.kept
-
-  rule_is : k ≡ rule_of file i
-  rule_is = ek ∙ (λ j. lowest_rule file (b.uses j) (b.sees j) (finds j) (both_past file bs i b.kept j) (eh j))
-
-  exchange_is : {g : Heard} {n : ℕ} {x : Bool} → n ≡ suc i → g ≡ heard_at file n → x ≡ key_exchange file us (found file bs) h g → x ≡ exchange_of file i
-  exchange_is {g} {n} {x} en eg ex =
-      let q : g ≡ heard_at file (suc i) = eg ∙ ap (heard_at file) en in
-      ex ∙ (λ j. key_exchange file (b.uses j) (finds j) (eh j) (q j))
-
-  abbrev Goes : (n : ℕ) (bytes bytes' us' rs' ks' bs' : List ℕ) → Type 0
-  Goes n bytes bytes' us' rs' ks' bs' =
-      (n ≡ pace (rule_of file) (exchange_of file) N i) ×
-      ((bytes' ≡ paced (rule_of file) (exchange_of file) N i bytes) × Before file (i + n) us' rs' ks' bs')
-
-  pub goes_one : (bytes : List ℕ) {bytes' us' rs' ks' bs' : List ℕ} → 0 < k → bytes' ≡ set bytes i k → Before file (suc i) us' rs' ks' bs' → Goes 1 bytes bytes' us' rs' ks' bs'
-  goes_one bytes {bytes'} {us'} {rs'} {ks'} {bs'} l q a =
-      let t = told_one (rule_of file) (exchange_of file) N i k bytes bytes' rule_is l q in
-      let e : i + 1 ≡ suc i = omega arith in
-      (t.0, (t.1, subst (λ (m : ℕ). Before file m us' rs' ks' bs') (sym e) a))
-
-  pub goes_two : (bytes : List ℕ) {g : Heard} {n : ℕ} {x : Bool} {mid bytes' us' rs' ks' bs' : List ℕ} → k ≤ 0 → n ≡ i + 1 → n < N →
-      g ≡ heard_at file n → x ≡ key_exchange file us (found file bs) h g → x ≡ true → mid ≡ set bytes i 6 → bytes' ≡ set mid n 6 →
-      Before file (suc n) us' rs' ks' bs' → Goes 2 bytes bytes' us' rs' ks' bs'
-  goes_two bytes {g} {n} {x} {mid} {bytes'} {us'} {rs'} {ks'} {bs'} l en s eg ex t p q a =
-      let f : n ≡ suc i = omega arith in
-      let w : bytes' ≡ set (set bytes i 6) (suc i) 6 = rw (← p, ← f) q in
-      let r = told_two (rule_of file) (exchange_of file) N i k bytes bytes' rule_is l (omega arith) (sym (exchange_is f eg ex) ∙ t) w in
-      let e : suc n ≡ i + 2 = omega arith in
-      (r.0, (r.1, subst (λ (m : ℕ). Before file m us' rs' ks' bs') e a))
-
-  stays : Before file (i + 0) us rs ks bs
-  stays =
-      let e : i ≡ i + 0 = omega arith in
-      subst (λ (m : ℕ). Before file m us rs ks bs) e b
-
-  pub goes_last : (bytes : List ℕ) → k ≤ 0 → N ≤ i + 1 → Goes 0 bytes bytes us rs ks bs
-  goes_last bytes l s =
-      let r = told_last (rule_of file) (exchange_of file) N i k bytes rule_is l (omega arith) in
-      (r.0, (r.1, stays))
-
-  pub goes_none : (bytes : List ℕ) {g : Heard} {n : ℕ} {x : Bool} → k ≤ 0 → n ≡ i + 1 → n < N →
-      g ≡ heard_at file n → x ≡ key_exchange file us (found file bs) h g → x ≡ false → Goes 0 bytes bytes us rs ks bs
-  goes_none bytes {g} {n} {x} l en s eg ex t =
-      let f : n ≡ suc i = omega arith in
-      let r = told_none (rule_of file) (exchange_of file) N i k bytes rule_is l (omega arith) (sym (exchange_is f eg ex) ∙ t) in
-      (r.0, (r.1, stays))
-
 -- the walk's answer
 pub walk_ends : (file bytes₀ : List ℕ) (N i : ℕ) (bytes bytes' : List ℕ) → N ≡ walkable file →
     walk (rule_of file) (exchange_of file) N N 0 bytes₀ ≡ walked_to i bytes → bytes' ≡ bytes →
@@ -256,14 +180,3 @@ walk_ends file bytes₀ N i bytes bytes' e w q =
     let f : walk_file file bytes₀ ≡ walked_to i bytes = ap (λ (n : ℕ). walk (rule_of file) (exchange_of file) n n 0 bytes₀) (sym e) ∙ w in
     (sym (ap (λ (x : Walked). x.length) f), q ∙ sym (ap (λ (x : Walked). x.bytes) f))
 
--- the lowest rule, by whether the event is a Says
-module _ (file used known : List ℕ) (find : Wanted → Bool) (both : Bool → (from to sid a b m na nb : ℕ) → Bool) (h : Heard) where
-  by_says : {b : Bool} → h.says ≡ b → choose b (lowest_said file used known find h) (lowest_noted file known find both h) ≡ lowest_rule file used known find both h
-  unfolding lowest_rule
-  by_says q = ap (λ (b : Bool). choose b (lowest_said file used known find h) (lowest_noted file known find both h)) (sym q)
-
-  pub rule_said : {k : ℕ} → h.says ≡ true → k ≡ lowest_said file used known find h → k ≡ lowest_rule file used known find both h
-  rule_said q r = r ∙ by_says q
-
-  pub rule_noted : {k : ℕ} → h.says ≡ false → k ≡ lowest_noted file known find both h → k ≡ lowest_rule file used known find both h
-  rule_noted q r = r ∙ by_says q

@@ -1,18 +1,24 @@
 -- The lowest rule that fits an event, as the code finds it; 0 for none. `find` looks for an earlier event, and `both` for two Finished. The tests are those of document 01, "The fourteen steps", parted
 -- by what the event is: a note, or a Says of a Crypt, or of another message.
-use Rattle.std.specs.Prelude.{ℕ, suc, Bool, List}
+use Rattle.std.specs.Prelude.{ℕ, suc, Bool, List, Option, ltb}
+use Rattle.std.specs.Bool.{then_some}
 use Rattle.laws.specs.Choose.{choose}
 use Rattle.closure.specs.Closure.{known_after}
 use Rattle.used.specs.Marking.{used_after}
 use Rattle.forms.specs.Kinds.{crypt_of}
-use Rattle.earlier.specs.declared.Heard.{Heard}
+use Rattle.earlier.specs.Heard.{Heard}
 use Rattle.earlier.specs.declared.Wanted.{Wanted}
 use Rattle.earlier.specs.Earlier.{heard_at, past}
 use Rattle.rules.specs.Tests.{fake, spy_keys, client_hello, server_hello, certificate, key_exchange, cert_verify, oops}
 use Rattle.finished.specs.Tests.{client_finished, server_finished, client_resume, server_resume}
+use Rattle.accepts.specs.declared.Session.{Session}
+use Rattle.accepts.specs.declared.Side.{Side}
 use Rattle.accepts.specs.Tests.{both_finished, client_accepts, server_accepts}
 
-unfoldable pub lowest_noted : List ℕ → (known : List ℕ) → (Wanted → Bool) → (Bool → (from to sid a b m na nb : ℕ) → Bool) → Heard → ℕ
+abbrev pub rule_or_none : ℕ → Option ℕ
+rule_or_none k = then_some (ltb 0 k) k
+
+unfoldable pub lowest_noted : List ℕ → (known : List ℕ) → (Wanted → Bool) → (Side → Session → Bool) → Heard → ℕ
 lowest_noted file known find both h = choose (spy_keys file known h) 2 (choose (client_accepts file find both h) 10 (choose (server_accepts file find both h) 11 0))
 
 unfoldable pub lowest_crypt : List ℕ → (Wanted → Bool) → Heard → ℕ
@@ -27,7 +33,7 @@ unfoldable pub lowest_said : List ℕ → (used known : List ℕ) → (Wanted �
 lowest_said file used known find h =
     choose (fake file known h) 1 (choose (crypt_of file h.row).is (lowest_crypt file find h) (lowest_plain file used find h))
 
-unfoldable pub lowest_rule : List ℕ → (used known : List ℕ) → (Wanted → Bool) → (Bool → (from to sid a b m na nb : ℕ) → Bool) → Heard → ℕ
+unfoldable pub lowest_rule : List ℕ → (used known : List ℕ) → (Wanted → Bool) → (Side → Session → Bool) → Heard → ℕ
 lowest_rule file used known find both h = choose h.says (lowest_said file used known find h) (lowest_noted file known find both h)
 
 -- of event e after those before it; and whether event e and the next are rule 6's

@@ -1,9 +1,12 @@
--- One step of the walk, as the code does it: how many events are taken, what is written, and what stands in the arrays before an event.
-use Rattle.std.specs.Prelude.{ℕ, suc, Bool, ◌&&◌, List, ◌≡◌, ltb, set}
+-- One step of the walk, as the code does it: how many events are taken, what is written, and what the state holds before an event.
+use Rattle.std.specs.Prelude.{ℕ, suc, Bool, ◌&&◌, List, Option, ◌≡◌, ltb, set}
+use Rattle.std.specs.Bool.{then_some}
 use Rattle.laws.specs.Choose.{choose}
 use Rattle.closure.specs.Closure.{known_after}
 use Rattle.earlier.specs.Kept.{Boxed}
 use Rattle.used.specs.Marking.{used_after}
+use Rattle.rules.specs.Making.{SoundMarks}
+use Rattle.walk.specs.declared.State.{State}
 
 -- one event by a rule of one event, two by rule 6, or none
 abbrev pub pace : (ℕ → ℕ) → (ℕ → Bool) → (events : ℕ) → ℕ → ℕ
@@ -14,9 +17,13 @@ paced rule exchange events i bytes =
     choose (ltb 0 (rule i)) (set bytes i (rule i))
     (choose (ltb (suc i) events && exchange i) (set (set bytes i 6) (suc i) 6) bytes)
 
--- the arrays hold what is used and what is known before event i, and the events before it in their boxes
-pub record Before (file : List ℕ) (i : ℕ) (used rows keys boxes : List ℕ) : Type 0 where
-  pub uses : used ≡ used_after file i
-  pub sees : rows ≡ (known_after file i).rows
-  pub opens : keys ≡ (known_after file i).keys
-  pub kept : Boxed file boxes i
+-- no event taken is None
+abbrev pub taken_or_none : ℕ → Option ℕ
+taken_or_none n = then_some (ltb 0 n) n
+
+-- the state holds what is used and what is known before event i, the events before it in their boxes, and marks of rows that can be made
+pub record Before (file : List ℕ) (i : ℕ) (s : State) : Type 0 where
+  pub uses : s.used ≡ used_after file i
+  pub sees : s.known ≡ known_after file i
+  pub kept : Boxed file s.boxes i
+  pub makes : SoundMarks file s.known.rows s.made

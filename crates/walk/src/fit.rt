@@ -1,122 +1,105 @@
-// The lowest rule that fits an event, by what the event is; 0 for none.
+// The lowest rule that fits an event, by what the event is.
 ghost use Rattle.std.specs.Prelude.{◌≡◌};
+ghost use Rattle.earlier.specs.Earlier.{heard_in};
 ghost use Rattle.earlier.specs.Boxes.{found};
 ghost use Rattle.accepts.specs.Hashes.{both_in};
-ghost use Rattle.rules.specs.Making.{SoundMarks};
-ghost use Rattle.walk.specs.Lowest.{lowest_noted, lowest_crypt, lowest_plain, lowest_said, lowest_rule};
+ghost use Rattle.walk.specs.Lowest.{rule_or_none, lowest_noted, lowest_crypt, lowest_plain, lowest_said, rule_of};
+ghost use Rattle.walk.specs.Pace.{Before};
 
-use earlier::Heard;
-use earlier::boxes::BOX_ROOM;
-use trace::limits::ROW_LIMIT;
+use super::State;
+use trace::{Event, EventNo, RowNo};
 
-// A note: 2, 10 or 11.
-fn lowest_noted(
-    file: &[u8],
-    boxes: &[u16; BOX_ROOM],
-    known: &[u8; ROW_LIMIT],
-    e: u16,
-    h: Heard,
-) -> u8
-    ensures { result ≡ lowest_noted file.now known.now (found file.now boxes.now) (both_in file.now boxes.now e) h }
-{
-    let two = rules::spy_keys(file, known, h);
-    if two {
-        return 2;
+impl State {
+    // A note: 2, 10 or 11.
+    #[tactic(auto, unfolding(crate::specs::Lowest::lowest_noted))]
+    fn lowest_noted(&self, file: &[u8], e: u16, event: Event) -> Option<u8>
+        ensures { result ≡ rule_or_none (lowest_noted file.now self.now.known.rows
+            (found file.now self.now.boxes) (both_in file.now self.now.boxes e) (heard_in event)) }
+    {
+        if rules::spy_keys(file, &self.known.rows, event) {
+            return Some(2);
+        }
+        if accepts::client_accepts(file, &self.boxes, e, event) {
+            return Some(10);
+        }
+        if accepts::server_accepts(file, &self.boxes, e, event) {
+            return Some(11);
+        }
+        None
     }
-    let ten = accepts::client_accepts(file, boxes, e, h);
-    if ten {
-        return 10;
-    }
-    let eleven = accepts::server_accepts(file, boxes, e, h);
-    if eleven { 11 } else { 0 }
-}
 
-// A Says of a Crypt: 5, 7, 8, 9, 12 or 13.
-fn lowest_crypt(file: &[u8], boxes: &[u16; BOX_ROOM], h: Heard) -> u8
-    ensures { result ≡ lowest_crypt file.now (found file.now boxes.now) h }
-{
-    let five = rules::certificate(file, h);
-    if five {
-        return 5;
+    // A Says of a Crypt: 5, 7, 8, 9, 12 or 13.
+    #[tactic(auto, unfolding(crate::specs::Lowest::lowest_crypt))]
+    fn lowest_crypt(&self, file: &[u8], event: Event) -> Option<u8>
+        ensures { result ≡ rule_or_none
+            (lowest_crypt file.now (found file.now self.now.boxes) (heard_in event)) }
+    {
+        if rules::certificate(file, event) {
+            return Some(5);
+        }
+        if rules::cert_verify(file, &self.boxes, event) {
+            return Some(7);
+        }
+        if finished::client_finished(file, &self.boxes, event) {
+            return Some(8);
+        }
+        if finished::server_finished(file, &self.boxes, event) {
+            return Some(9);
+        }
+        if finished::client_resume(file, &self.boxes, event) {
+            return Some(12);
+        }
+        if finished::server_resume(file, &self.boxes, event) {
+            return Some(13);
+        }
+        None
     }
-    let seven = rules::cert_verify(file, boxes, h);
-    if seven {
-        return 7;
-    }
-    let eight = finished::client_finished(file, boxes, h);
-    if eight {
-        return 8;
-    }
-    let nine = finished::server_finished(file, boxes, h);
-    if nine {
-        return 9;
-    }
-    let twelve = finished::client_resume(file, boxes, h);
-    if twelve {
-        return 12;
-    }
-    let thirteen = finished::server_resume(file, boxes, h);
-    if thirteen { 13 } else { 0 }
-}
 
-// A Says of another message: 3, 4 or 14.
-fn lowest_plain(file: &[u8], boxes: &[u16; BOX_ROOM], used: &[u8; ROW_LIMIT], h: Heard) -> u8
-    ensures { result ≡ lowest_plain file.now used.now (found file.now boxes.now) h }
-{
-    let three = rules::client_hello(file, used, h);
-    if three {
-        return 3;
+    // A Says of another message: 3, 4 or 14.
+    #[tactic(auto, unfolding(crate::specs::Lowest::lowest_plain))]
+    fn lowest_plain(&self, file: &[u8], event: Event) -> Option<u8>
+        ensures { result ≡ rule_or_none
+            (lowest_plain file.now self.now.used (found file.now self.now.boxes) (heard_in event)) }
+    {
+        if rules::client_hello(file, &self.used, event) {
+            return Some(3);
+        }
+        if rules::server_hello(file, &self.boxes, &self.used, event) {
+            return Some(4);
+        }
+        if rules::oops(file, &self.boxes, event) {
+            return Some(14);
+        }
+        None
     }
-    let four = rules::server_hello(file, boxes, used, h);
-    if four {
-        return 4;
-    }
-    let fourteen = rules::oops(file, boxes, h);
-    if fourteen { 14 } else { 0 }
-}
 
-// A Says: 1, or by whether its message is a Crypt. The rows in `made` can be made, and stay so.
-fn lowest_said(
-    file: &[u8],
-    boxes: &[u16; BOX_ROOM],
-    used: &[u8; ROW_LIMIT],
-    known: &[u8; ROW_LIMIT],
-    made: &mut [u8; ROW_LIMIT],
-    h: Heard,
-) -> u8
-    requires { SoundMarks file.now known.now made.old }
-    ensures value { result ≡ lowest_said file.now used.now known.now (found file.now boxes.now) h }
-    ensures sound_marks { SoundMarks file.now known.now made.new }
-{
-    let sealed = forms::leaves::crypt_of(file, h.row).is;
-    let one = rules::fake(file, known, made, h);
-    if one {
-        return 1;
+    // A Says: 1, or by whether its message is a Crypt. More rows are marked that can be made.
+    #[tactic(auto, unfolding(crate::specs::Lowest::lowest_said))]
+    fn lowest_said(&mut self, file: &[u8], e: u16, event: Event, row: RowNo) -> Option<u8>
+        requires before { Before file.now e self.old }
+        requires row { (heard_in event).row ≡ row.0 }
+        ensures value { result ≡ rule_or_none (lowest_said file.now self.old.used self.old.known.rows
+            (found file.now self.old.boxes) (heard_in event)) }
+        ensures before { Before file.now e self.new }
+    {
+        if rules::fake(file, &self.known.rows, &mut self.made, event) {
+            return Some(1);
+        }
+        match forms::leaves::crypt_of(file, row.0) {
+            Some(_) => self.lowest_crypt(file, event),
+            None => self.lowest_plain(file, event),
+        }
     }
-    if sealed {
-        lowest_crypt(file, boxes, h)
-    } else {
-        lowest_plain(file, boxes, used, h)
-    }
-}
 
-pub fn lowest_rule(
-    file: &[u8],
-    boxes: &[u16; BOX_ROOM],
-    used: &[u8; ROW_LIMIT],
-    known: &[u8; ROW_LIMIT],
-    made: &mut [u8; ROW_LIMIT],
-    e: u16,
-    h: Heard,
-) -> u8
-    requires { SoundMarks file.now known.now made.old }
-    ensures value { result ≡ lowest_rule file.now used.now known.now (found file.now boxes.now)
-        (both_in file.now boxes.now e) h }
-    ensures sound_marks { SoundMarks file.now known.now made.new }
-{
-    if h.says {
-        lowest_said(file, boxes, used, known, made, h)
-    } else {
-        lowest_noted(file, boxes, known, e, h)
+    pub fn lowest_rule(&mut self, file: &[u8], e: u16) -> Option<u8>
+        requires { Before file.now e self.old }
+        ensures value { result ≡ rule_or_none (rule_of file.now e) }
+        ensures before { Before file.now e self.new }
+    {
+        let event = trace::event_at(file, EventNo(e));
+        match event {
+            Event::Says(_, _, row) => self.lowest_said(file, e, event, row),
+            Event::Notes(..) => self.lowest_noted(file, e, event),
+        }
     }
 }

@@ -1,49 +1,16 @@
--- `accepts::agreed_any` meets its contract: what is left of the chain answers for the whole of it.
+-- `accepts::agreed_any` meets its contract: `any` tests the events of the box.
 -- Assumes nothing.
-use mathlib.Core.Path.{refl, sym, ◌∙◌}
-use native.Mathlib.Omega.{arith}
-use Rattle.earlier.proofs.Chains.{next_falls, some_step, some_end}
+use Rattle.std.proofs.Common.{rules}
+use Rattle.std.proofs.lemmas.Iterator.Search.{any_from_yields_List}
+use Rattle.std.proofs.lemmas.Iterator.Consumers.{YieldsList-from_first}
+use borrow.Author.Tests.{tests}
+use Rattle.earlier.specs.Boxes.{rest_of}
 use Rattle.accepts.specs.Hashes.{agreed_in}
 use Rattle.accepts.proofs.agreed_any.Goals as goal
 
-pub returns-then-found : goal.returns-then-found
-returns-then-found c =
-    let x = c.args in
-    let l = c.loop-link in
-    sym
-    (sym l.invariant ∙
-    some_step x.boxes.now
-    (agreed_in x.file.now x.boxes.now x.marks.now x.e x.server x.from x.to x.sid x.a x.b x.m x.na x.nb)
-    l.link c.loop-link-test.true ∙
-    rw (sym c.agreed_at-found.ensures ∙ c.if-found.true) refl)
-
-pub loop-link-smaller : goal.loop-link-smaller
-loop-link-smaller c =
-    let x = c.args in
-    let l = c.loop-link in
-    rw c.next-link.ensures (next_falls x.boxes.now l.link c.loop-link-test.true)
-
-pub loop-link-preserved : goal.loop-link-preserved
-loop-link-preserved c =
-    let x = c.args in
-    let l = c.loop-link in
-    rw c.next-link.ensures
-    (sym
-    (some_step x.boxes.now
-    (agreed_in x.file.now x.boxes.now x.marks.now x.e x.server x.from x.to x.sid x.a x.b x.m x.na x.nb)
-    l.link c.loop-link-test.true ∙
-    rw (sym c.agreed_at-found.ensures ∙ c.if-found.false) refl) ∙
-    l.invariant)
-
 pub returns : goal.returns
 returns c =
-    let x = c.args in
-    let l = c.loop-link in
-    sym
-    (sym l.invariant ∙
-    some_end x.boxes.now
-    (agreed_in x.file.now x.boxes.now x.marks.now x.e x.server x.from x.to x.sid x.a x.b x.m x.na x.nb)
-    l.link (omega arith))
-
-pub loop-link-init : goal.loop-link-init
-loop-link-init c = rw c.latest_to-link.ensures refl
+    let a = c.args in
+    any_from_yields_List (agreed_in a.file.now a.boxes.now a.marks.now a.e a.by a.s) c.any.new.self _ _ c.any.ensures.ran
+    (YieldsList-from_first (λ x. x) rest_of _ c.events_to.ensures)
+    (λ x b q k. search (rules, tests))

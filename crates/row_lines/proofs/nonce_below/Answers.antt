@@ -1,7 +1,0 @@
--- `row_lines::nonce_below` meets its contract: the kind is what `kind_at` ensures.
--- Assumes nothing.
-
-use Rattle.row_lines.proofs.nonce_below.Goals as goal
-
-pub returns : goal.returns
-returns c = cc
