@@ -1,20 +1,17 @@
 -- The question with marks: where each marked row can be made, the answer is the definition's, and each marked row can be made again.
 -- Assumes nothing.
 use Prim.Native.Nat.{ℕ, zero, suc, ◌<◌}
-use mathlib.Core.Bool.{Bool, true, false, ◌&&◌, ◌||◌}
+use mathlib.Core.Bool.{Bool, true, ◌&&◌}
 use mathlib.Core.List.{List}
 use mathlib.Core.Path.{◌≡◌, refl, sym, ◌∙◌, ap, subst}
 use native.Mathlib.Omega.{arith}
-use lib.Dec.{leb}
 use lib.ListN.{set}
-use borrow.Author.Tests.{leb-true}
-use Rattle.std.proofs.lemmas.Bool.{leb-false}
 use Rattle.std.proofs.lemmas.Grind.{common_steps}
 use Rattle.std.proofs.lemmas.Bool.Decides.{nat_tests}
 use Rattle.trace.specs.File.{row_limit}
 use Rattle.trace.specs.Kinds.{row_at}
 use Rattle.earlier.specs.Heard.{Heard}
-use Rattle.closure.specs.Closure.{row_marked, zeros}
+use Rattle.closure.specs.Closure.{zeros}
 use Rattle.closure.proofs.Marks.{none_marked}
 use Rattle.rules.specs.declared.synth.Parts.{Parts}
 use Rattle.rules.specs.declared.synth.Parts.TheVariants.{Leaf, Two}
@@ -49,36 +46,25 @@ module _ (file known : List ℕ) where
         let r = below_right l.marks y q.1 in
         grind (arith, last_right (made_below go l.marks row y) (can_below file known row y))
 
-    with_right : (ms : List ℕ) (p : Parts) → (can_of file known row p ≡ true → can_make file known row ≡ true) →
-        SoundMarks file known ms → Right (make_with go ms row p) (can_of file known row p)
-    with_right ms (Leaf can) c s = (refl, s)
-    with_right ms (Two x y) c s = both_right ms x y c s
+    with_right : (ms : List ℕ) (p : Parts) → can_make file known row ≡ can_of file known row p → SoundMarks file known ms →
+        Right (make_with go ms row p) (can_of file known row p)
+    with_right ms (Leaf can) e s = (refl, s)
+    with_right ms (Two x y) e s = both_right ms x y (λ t. e ∙ t) s
 
   pub make_right : (d : ℕ) (ms : List ℕ) (row : ℕ) → row < d → SoundMarks file known ms →
       Right (make_row file known d ms row) (can_make file known row)
   unfolding make_row
   make_right zero ms row l s = absurd (omega arith)
   make_right (suc d) ms row l s =
-      by_test (row_marked known row) (row_marked ms row) (leb row_limit row) refl refl refl
-      (λ c. with_right row (λ ms x. make_row file known d ms x) (λ ms' x h s'. make_right d ms' x (omega arith) s') ms (parts_of known (row_at file row)) c s)
-    where
-      by_test : (k m p : Bool) → row_marked known row ≡ k → row_marked ms row ≡ m → leb row_limit row ≡ p →
-          ((can_of file known row (parts_of known (row_at file row)) ≡ true → can_make file known row ≡ true) →
-          Right (make_with (λ ms x. make_row file known d ms x) ms row (parts_of known (row_at file row))) (can_of file known row (parts_of known (row_at file row)))) →
-          Right (elim (k || m) as (λ _. Made) [
-            | true ↦ told ms true
-            | false ↦ elim p as (λ _. Made) [
-              | true ↦ told ms false
-              | false ↦ make_with (λ ms x. make_row file known d ms x) ms row (parts_of known (row_at file row))
-            ]
-          ]) (can_make file known row)
-      by_test true m p ek em ep ih = (sym (known_made file known row ek), s)
-      by_test false true p ek em ep ih = (sym (s row em), s)
-      by_test false false true ek em ep ih = (sym (far_not_made file known (suc row) row (leb-true row_limit row ep)), s)
-      by_test false false false ek em ep ih =
-          let e = parts_made file known row (leb-false row_limit row ep) ek in
-          let q = ih (λ t. e ∙ t) in
-          (q.0 ∙ sym e, q.1)
+      grind (
+        arith,
+        nat_tests,
+        with_right row (λ ms x. make_row file known d ms x) (λ ms' x h s'. make_right d ms' x (omega arith) s') ms (parts_of known (row_at file row)),
+        known_made file known row,
+        s row,
+        far_not_made file known (suc row) row,
+        parts_made file known row,
+      )
 
   -- rule 1
   pub fake_right : (ms : List ℕ) (h : Heard) → SoundMarks file known ms → Right (try_fake file known ms h) (fake file known h)

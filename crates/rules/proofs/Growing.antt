@@ -12,7 +12,7 @@ use Rattle.std.proofs.lemmas.Bool.Decides.{nat_tests}
 use Rattle.trace.specs.File.{row_limit, rows_of, compromised_in}
 use Rattle.trace.specs.Kinds.{row_at}
 use Rattle.trace.specs.declared.Row.{Row}
-use Rattle.trace.specs.declared.Row.TheVariants.{Agent, Number, Nonce, Prf, PublicKey, PrivateKey, SessionKey, Hash, Crypt, Pair}
+use Rattle.trace.specs.declared.Row.TheVariants.{Agent, Number, Hash, Crypt, Pair}
 use Rattle.trace.specs.declared.Event.{Event}
 use Rattle.trace.specs.declared.Event.TheVariants.{Says, Notes}
 use Rattle.laws.proofs.Both.{both}
@@ -103,11 +103,6 @@ module _ (file known known' : List ℕ) (kept : Kept known known') where
     makes_more : (R : Row) → makes known ms R ≡ true → makes known' ms' R ≡ true
     makes_more (Agent a) e = refl
     makes_more (Number n) e = refl
-    makes_more (Nonce n) e = absurd (true≢false (sym e))
-    makes_more (Prf s x y) e = absurd (true≢false (sym e))
-    makes_more (PublicKey a) e = absurd (true≢false (sym e))
-    makes_more (PrivateKey a) e = absurd (true≢false (sym e))
-    makes_more (SessionKey o x y z) e = absurd (true≢false (sym e))
     makes_more (Hash x) e = more x.0 e
     makes_more (Crypt k x) e =
         let b = both (row_marked known k.0) (made ms x.0) e in
@@ -115,6 +110,7 @@ module _ (file known known' : List ℕ) (kept : Kept known known') where
     makes_more (Pair x y) e =
         let b = both (made ms x.0) (made ms y.0) e in
         both_true (more x.0 b.0) (more y.0 b.1)
+    makes_more _ e = absurd (true≢false (sym e))
 
   swept_more : (n x : ℕ) → made (swept file known n) x ≡ true → made (swept file known' n) x ≡ true
   unfolding write_marks
