@@ -3,7 +3,6 @@
 
 ghost use Rattle.std.specs.Prelude.{◌≡◌, ◌∷◌, [], ◌++◌};
 ghost use Rattle.judge.specs.Judged.{verdict_length};
-ghost use Rattle.report.specs.Page.{Put};
 ghost use Rattle.report.specs.Text.{digits, newline, event_line, event_lines, last_line, text_of, Reported};
 
 use itoa::Buffer;
@@ -35,11 +34,12 @@ struct Page<'a> {
 }
 
 impl Page<'_> {
+    ghost use Rattle.report.specs.Written.{Writes};
+
     // Past the end nothing is written.
     #[tactic(auto, using(crate::proofs::Pages::put_room, crate::proofs::Pages::put_full))]
     fn byte(&mut self, byte: u8)
-        ensures same { self.new.out.ghost_name ≡ self.old.out.ghost_name }
-        ensures put { Put self.old.out.now self.old.at (byte ∷ []) self.new.out.now self.new.at }
+        ensures { Writes self.old (byte ∷ []) self.new }
     {
         if self.at < self.out.len() {
             self.out[self.at] = byte;
@@ -49,8 +49,7 @@ impl Page<'_> {
 
     #[tactic(auto, using(crate::proofs::Pages::put_none, crate::proofs::Pages::put_whole))]
     fn word(&mut self, word: &[u8])
-        ensures same { self.new.out.ghost_name ≡ self.old.out.ghost_name }
-        ensures put { Put self.old.out.now self.old.at word.now self.new.out.now self.new.at }
+        ensures { Writes self.old word.now self.new }
     {
         for &b in word {
             self.byte(b);
@@ -59,16 +58,14 @@ impl Page<'_> {
 
     #[tactic(auto, using(crate::proofs::Numbers::digits_decimal))]
     fn number(&mut self, n: u16)
-        ensures same { self.new.out.ghost_name ≡ self.old.out.ghost_name }
-        ensures put { Put self.old.out.now self.old.at (digits n) self.new.out.now self.new.at }
+        ensures { Writes self.old (digits n) self.new }
     {
         self.word(Buffer::new().format(n).as_bytes());
     }
 
     // The line of event e.
     fn event(&mut self, e: u16, rule: u8)
-        ensures same { self.new.out.ghost_name ≡ self.old.out.ghost_name }
-        ensures put { Put self.old.out.now self.old.at (event_line e rule) self.new.out.now self.new.at }
+        ensures { Writes self.old (event_line e rule) self.new }
     {
         self.number(e);
         self.byte(SPACE);
@@ -79,8 +76,7 @@ impl Page<'_> {
     // The lines of the first n events.
     #[tactic(auto, using(crate::proofs::Lines::put_no_events))]
     fn events(&mut self, rules: &[u8], n: u16)
-        ensures same { self.new.out.ghost_name ≡ self.old.out.ghost_name }
-        ensures put { Put self.old.out.now self.old.at (event_lines rules.now n) self.new.out.now self.new.at }
+        ensures { Writes self.old (event_lines rules.now n) self.new }
     {
         for e in 0..n {
             let rule = rules.get(usize::from(e)).copied().unwrap_or(0);
@@ -89,8 +85,7 @@ impl Page<'_> {
     }
 
     fn line(&mut self, word: &[u8], n: u16)
-        ensures same { self.new.out.ghost_name ≡ self.old.out.ghost_name }
-        ensures put { Put self.old.out.now self.old.at (word.now ++ (digits n ++ newline)) self.new.out.now self.new.at }
+        ensures { Writes self.old (word.now ++ (digits n ++ newline)) self.new }
     {
         self.word(word);
         self.number(n);
@@ -98,8 +93,7 @@ impl Page<'_> {
     }
 
     fn last_line(&mut self, verdict: Verdict)
-        ensures same { self.new.out.ghost_name ≡ self.old.out.ghost_name }
-        ensures put { Put self.old.out.now self.old.at (last_line verdict) self.new.out.now self.new.at }
+        ensures { Writes self.old (last_line verdict) self.new }
     {
         match verdict {
             Verdict::Refused(cause) => {
@@ -116,8 +110,7 @@ impl Page<'_> {
 
     // The text of a verdict; where the buffer ends it is cut.
     fn text(&mut self, verdict: Verdict, rules: &[u8])
-        ensures same { self.new.out.ghost_name ≡ self.old.out.ghost_name }
-        ensures put { Put self.old.out.now self.old.at (text_of verdict rules.now) self.new.out.now self.new.at }
+        ensures { Writes self.old (text_of verdict rules.now) self.new }
     {
         self.events(rules, accepted(verdict));
         self.last_line(verdict);

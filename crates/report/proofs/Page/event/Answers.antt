@@ -3,6 +3,5 @@
 use Rattle.report.proofs.Lines.{put_event}
 use Rattle.report.proofs.Page.event.Goals as goal
 
-pub returns-clause-put : goal.returns-clause-put
-returns-clause-put c =
-    put_event c.args.e c.args.rule c.number.ensures.put c.byte.ensures.put (rw c.from.ensures at c.number-2.ensures.put) c.byte-2.ensures.put
+pub returns : goal.returns
+returns c = record { same = cc; put = put_event c.args.e c.args.rule c.number.ensures.put c.byte.ensures.put (rw c.from.ensures at c.number-2.ensures.put) c.byte-2.ensures.put }

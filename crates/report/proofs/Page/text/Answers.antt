@@ -3,5 +3,5 @@
 use Rattle.report.proofs.Pages.{put_then}
 use Rattle.report.proofs.Page.text.Goals as goal
 
-pub returns-clause-put : goal.returns-clause-put
-returns-clause-put c = put_then (rw c.accepted.ensures at c.events.ensures.put) c.last_line.ensures.put
+pub returns : goal.returns
+returns c = record { same = cc; put = put_then (rw c.accepted.ensures at c.events.ensures.put) c.last_line.ensures.put }
