@@ -4,6 +4,7 @@
 use cases::{print, put};
 use judge::reply::Verdict;
 use std::io;
+use trace::Cause;
 
 // An event over the sample's rows: who says which row to whom, or who notes which.
 #[derive(Clone, Copy)]
@@ -230,14 +231,14 @@ const CASES: [Case; 34] = [
 
 const FRESH: u8 = 99;
 
-fn print_verdict(rt: &impl Print, verdict: Verdict) -> io::Result<()> {
+fn print_verdict(rt: &impl Print, verdict: Result<Verdict, Cause>) -> io::Result<()> {
     match verdict {
-        Verdict::Refused(cause) => {
+        Err(cause) => {
             print!(rt; " refused")?;
             print::refusal(rt, cause)
         }
-        Verdict::Illegal(n) => print!(rt; " illegal {n}"),
-        Verdict::Accepted(n) => print!(rt; " accepted {n}"),
+        Ok(Verdict::Illegal(n)) => print!(rt; " illegal {n}"),
+        Ok(Verdict::Accepted(n)) => print!(rt; " accepted {n}"),
     }
 }
 

@@ -5,10 +5,11 @@ use mathlib.Core.List.{List, ◌++◌}
 use mathlib.Core.Path.{◌≡◌}
 use native.Mathlib.Numerals.{add-one}
 use lib.ListN.{get_or}
+use Rattle.std.specs.Prelude.{Ok, Err}
 use Rattle.report.specs.Page.{Put}
 use Rattle.trace.specs.Refusal.{number_of, place_of}
 use Rattle.trace.specs.declared.Cause.{Cause}
-use Rattle.judge.specs.declared.reply.Verdict.TheVariants.{Refused, Illegal, Accepted}
+use Rattle.judge.specs.declared.reply.Verdict.TheVariants.{Illegal, Accepted}
 use Rattle.report.specs.Text.{digits, space, newline, refused_word, illegal_word, accepted_word, event_line, event_lines, last_line}
 use Rattle.report.proofs.Pages.{put_none, put_then}
 
@@ -24,7 +25,7 @@ module _ {a : List ℕ} {i : ℕ} where
 
   pub put_refusal : {b c d e f : List ℕ} {j k l m o : ℕ} (cause : Cause) (n at : ℕ) → n ≡ number_of cause → at ≡ place_of cause →
       Put a i refused_word b j → Put b j (digits n) c k → Put c k space d l → Put d l (digits at) e m → Put e m newline f o →
-      Put a i (last_line (Refused cause)) f o
+      Put a i (last_line (Err cause)) f o
   unfolding last_line
   put_refusal cause n at g h p q r s t = put_then p (put_then (rw g at q) (put_then r (put_then (rw h at s) t)))
 
@@ -32,11 +33,11 @@ module _ {a : List ℕ} {i : ℕ} where
       Put a i word b j → Put b j (digits n) c k → Put c k newline d l → Put a i (word ++ (digits n ++ newline)) d l
   put_line word n p q r = put_then p (put_then q r)
 
-  pub line_illegal : {b : List ℕ} {j : ℕ} (n : ℕ) → Put a i (illegal_word ++ (digits n ++ newline)) b j → Put a i (last_line (Illegal n)) b j
+  pub line_illegal : {b : List ℕ} {j : ℕ} (n : ℕ) → Put a i (illegal_word ++ (digits n ++ newline)) b j → Put a i (last_line (Ok (Illegal n))) b j
   unfolding last_line
   line_illegal n p = p
 
-  pub line_accepted : {b : List ℕ} {j : ℕ} (n : ℕ) → Put a i (accepted_word ++ (digits n ++ newline)) b j → Put a i (last_line (Accepted n)) b j
+  pub line_accepted : {b : List ℕ} {j : ℕ} (n : ℕ) → Put a i (accepted_word ++ (digits n ++ newline)) b j → Put a i (last_line (Ok (Accepted n))) b j
   unfolding last_line
   line_accepted n p = p
 

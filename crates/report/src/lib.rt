@@ -7,6 +7,7 @@ ghost use Rattle.report.specs.Text.{digits, newline, event_line, event_lines, la
 
 use itoa::Buffer;
 use judge::reply::Verdict;
+use trace::Cause;
 use trace::limits::EVENT_LIMIT;
 
 // A text has at most 3,600 bytes.
@@ -17,12 +18,12 @@ const SPACE: u8 = b' ';
 const NEWLINE: u8 = b'\n';
 
 // How many events the verdict accepts.
-fn accepted(verdict: Verdict) -> u16
+fn accepted(verdict: Result<Verdict, Cause>) -> u16
     ensures { result ≡ verdict_length verdict }
 {
     match verdict {
-        Verdict::Refused(_) => 0,
-        Verdict::Illegal(n) | Verdict::Accepted(n) => n,
+        Err(_) => 0,
+        Ok(Verdict::Illegal(n) | Verdict::Accepted(n)) => n,
     }
 }
 
@@ -92,24 +93,24 @@ impl Page<'_> {
         self.byte(NEWLINE);
     }
 
-    fn last_line(&mut self, verdict: Verdict)
+    fn last_line(&mut self, verdict: Result<Verdict, Cause>)
         ensures { Writes self.old (last_line verdict) self.new }
     {
         match verdict {
-            Verdict::Refused(cause) => {
+            Err(cause) => {
                 self.word(b"refused ");
                 self.number(trace::number(cause));
                 self.byte(SPACE);
                 self.number(trace::place(cause));
                 self.byte(NEWLINE);
             }
-            Verdict::Illegal(n) => self.line(b"illegal ", n),
-            Verdict::Accepted(n) => self.line(b"accepted ", n),
+            Ok(Verdict::Illegal(n)) => self.line(b"illegal ", n),
+            Ok(Verdict::Accepted(n)) => self.line(b"accepted ", n),
         }
     }
 
     // The text of a verdict; where the buffer ends it is cut.
-    fn text(&mut self, verdict: Verdict, rules: &[u8])
+    fn text(&mut self, verdict: Result<Verdict, Cause>, rules: &[u8])
         ensures { Writes self.old (text_of verdict rules.now) self.new }
     {
         self.events(rules, accepted(verdict));

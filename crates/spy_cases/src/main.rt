@@ -6,8 +6,8 @@ mod files;
 
 use cases::print;
 use files::Kind;
-use spy::Answer;
 use std::io;
+use trace::Cause;
 use trace::limits::{LONGEST_FILE, ROW_LIMIT, ROWS};
 
 // What of the sample is asked about: its first bytes, after changes of a place to a byte; n; and the room that is lent.
@@ -131,14 +131,12 @@ const CASES: [Case; 27] = [
 
 const FRESH: u8 = 7;
 
-fn print_answer(rt: &impl Print, answer: Answer) -> io::Result<()> {
-    match answer {
-        Answer::Refused(cause) => {
-            print!(rt; " refused")?;
-            print::refusal(rt, cause)
-        }
-        Answer::Written => Ok(()),
+fn print_answer(rt: &impl Print, answer: Result<(), Cause>) -> io::Result<()> {
+    if let Err(cause) = answer {
+        print!(rt; " refused")?;
+        print::refusal(rt, cause)?;
     }
+    Ok(())
 }
 
 fn print_case(rt: &impl Print, case: usize) -> io::Result<()> {

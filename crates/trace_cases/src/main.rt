@@ -2,7 +2,7 @@
 #![tactic(auto)]
 
 use std::io;
-use trace::{Cause, Reading};
+use trace::Cause;
 
 // A length, and what is changed: each a place and its new byte.
 const CASES: [(u8, &[(u16, u16)]); 89] = [
@@ -196,8 +196,8 @@ fn print_refusal(rt: &impl Print, file: &[u8], cause: Cause) -> io::Result<()> {
 
 fn run(rt: &impl Print, file: &[u8]) -> io::Result<()> {
     match reading::read(file) {
-        Reading::Refused(cause) => print_refusal(rt, file, cause),
-        Reading::Readable => println!(rt; "readable"),
+        Err(cause) => print_refusal(rt, file, cause),
+        Ok(()) => println!(rt; "readable"),
     }
 }
 
