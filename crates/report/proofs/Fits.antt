@@ -3,10 +3,10 @@
 use Prim.Native.Nat.{ℕ, zero, suc, ◌*◌, ◌/◌, ◌<◌, ◌≤◌}
 use mathlib.Core.Bool.{Bool, true, false}
 use mathlib.Core.List.{List}
-use mathlib.Core.Path.{◌≡◌, refl, ap}
+use mathlib.Core.Path.{◌≡◌, refl}
 use native.Mathlib.Omega.{arith}
 use lib.Dec.{ltb}
-use lib.ListN.{length, get_or, drop, replicate, length-append}
+use lib.ListN.{length, get_or, replicate, length-append}
 use borrow.Author.Tests.{ltb-true, ltb-false}
 use Rattle.std.specs.Prelude.{Result, Ok, Err}
 use Rattle.paper.specs.Event.{event, trace}
@@ -130,9 +130,3 @@ reported file before after n v rules e j p =
       size = put_size before (text_of v rules) after n p h;
       text = put_text before (text_of v rules) after n p h;
     }
-
--- what is to be written lies within the buffer
-pub within : {file before after : List ℕ} {n : ℕ} → Reported file before n after → n ≤ length after
-within {before = before} {n = n} r =
-    let e = ap length r.text in
-    omega (arith, r.size, length-append (text_of r.verdict r.rules) (drop n before))
