@@ -22,9 +22,9 @@ use Rattle.forms.proofs.Keyed.{hash_row}
 use Rattle.earlier.specs.declared.boxes.Boxes.{Boxes}
 use Rattle.earlier.specs.Heard.{Heard}
 use Rattle.earlier.specs.Earlier.{heard_at, said_to, said_by}
-use Rattle.earlier.specs.Boxes.{latest_to, next, chain_from, some}
+use Rattle.earlier.specs.Boxes.{latest_to, chain_from, some}
 use Rattle.earlier.specs.Kept.{seal_mark, seal_at, Boxed}
-use Rattle.earlier.proofs.Chains.{Below, none, more, chain_step, chain_end, chain_below, some_same}
+use Rattle.earlier.proofs.Chains.{Below, none, more, chain_below, some_same}
 use Rattle.earlier.proofs.Finding.{said_box, by_box, chain_any}
 use Rattle.accepts.specs.declared.Session.{Session}
 use Rattle.accepts.specs.declared.Side.{Side}

@@ -77,14 +77,7 @@ fn said_finished(file: &[u8], event: Event, by: Side, s: Session) -> bool
 }
 
 // The hash of the Finished of that role is marked, if event j tells one to this agent.
-fn mark_event(
-    file: &[u8],
-    boxes: &Boxes,
-    marks: &mut [u8; ROW_LIMIT],
-    j: u16,
-    role: Role,
-    to: u16,
-)
+fn mark_event(file: &[u8], boxes: &Boxes, marks: &mut [u8; ROW_LIMIT], j: u16, role: Role, to: u16)
     ensures { marks.new ≡ mark_event file.now boxes.now (server_in role) to j marks.old }
 {
     let event = trace::event_at(file, EventNo(j));
