@@ -5,12 +5,12 @@ use mathlib.Core.Bool.{Bool, true, false, ◌&&◌, ◌||◌, true≢false}
 use mathlib.Core.List.{List}
 use mathlib.Core.Path.{◌≡◌, refl, sym, ◌∙◌, ap, subst}
 use native.Mathlib.Omega.{arith}
-use native.Mathlib.Decide.{ℕ_discrete}
-use lib.Dec.{eqb, ltb, leb}
+use lib.Dec.{eqb, leb}
 use lib.ListN.{set}
-use lib.Seq.{get_or-set_other}
-use borrow.Author.Tests.{ltb-true, leb-true}
+use borrow.Author.Tests.{leb-true}
 use Rattle.std.proofs.lemmas.Bool.{leb-false}
+use Rattle.std.proofs.lemmas.Grind.{common_steps}
+use Rattle.std.proofs.lemmas.Bool.Decides.{nat_tests}
 use Rattle.trace.specs.File.{row_limit}
 use Rattle.trace.specs.Kinds.{row_at}
 use Rattle.earlier.specs.Heard.{Heard}
@@ -31,21 +31,12 @@ module _ (file known : List ℕ) where
   none_sound x m = absurd (none_marked row_limit x m)
 
   set_sound : (ms : List ℕ) (r : ℕ) → can_make file known r ≡ true → SoundMarks file known ms → SoundMarks file known (set ms r 1)
-  set_sound ms r c s x m = go (ℕ_discrete x r)
-    where
-      go : Dec (x ≡ r) → can_make file known x ≡ true
-      go (yes e) = rw e c
-      go (no d) = s x (rw (get_or-set_other ms r x 1 0 d) at m)
+  set_sound ms r c s x m = grind (arith, common_steps, nat_tests, s x)
 
   module _ (row : ℕ) (go : List ℕ → ℕ → Made)
       (right : (ms : List ℕ) (x : ℕ) → x < row → SoundMarks file known ms → Right (go ms x) (can_make file known x)) where
     below_right : (ms : List ℕ) (x : ℕ) → SoundMarks file known ms → Right (made_below go ms row x) (can_below file known row x)
-    below_right ms x s = by_test (ltb x row) refl
-      where
-        by_test : (b : Bool) → ltb x row ≡ b →
-            Right (elim b as (λ _. Made) [ true ↦ go ms x | false ↦ told ms false ]) (b && can_make file known x)
-        by_test true e = right ms x (ltb-true x row e) s
-        by_test false e = (refl, s)
+    below_right ms x s = grind (arith, nat_tests, right ms x)
 
     last_right : (r : Made) (b : Bool) → (b ≡ true → can_make file known row ≡ true) → Right r b → Right (made_last row r) b
     last_right r b c q = by_test r.is b c q

@@ -1,12 +1,12 @@
 -- Any depth above the row serves, since a row's parts lie below it.
 -- Assumes nothing.
 use Prim.Native.Nat.{ℕ, zero, suc, ◌<◌}
-use mathlib.Core.Bool.{Bool, true, false, ◌||◌}
+use mathlib.Core.Bool.{true, false, ◌||◌}
 use mathlib.Core.List.{List}
 use mathlib.Core.Path.{◌≡◌, refl, ◌∙◌, ap}
 use native.Mathlib.Omega.{arith}
-use lib.Dec.{ltb, leb}
-use borrow.Author.Tests.{ltb-true}
+use lib.Dec.{leb}
+use Rattle.std.proofs.lemmas.Bool.Decides.{nat_tests}
 use Rattle.trace.specs.File.{row_limit}
 use Rattle.trace.specs.Kinds.{row_at}
 use Rattle.closure.specs.Closure.{row_marked}
@@ -16,12 +16,7 @@ use Rattle.rules.specs.Making.{Made, told, parts_of, made_below, made_last, make
 
 module _ (go go' : List ℕ → ℕ → Made) (row : ℕ) (same : (ms : List ℕ) (x : ℕ) → x < row → go ms x ≡ go' ms x) where
   below_same : (ms : List ℕ) (x : ℕ) → made_below go ms row x ≡ made_below go' ms row x
-  below_same ms x = by_test (ltb x row) refl
-    where
-      by_test : (b : Bool) → ltb x row ≡ b →
-          ◌≡◌ {A = Made} (elim b [ true ↦ go ms x | false ↦ told ms false ]) (elim b [ true ↦ go' ms x | false ↦ told ms false ])
-      by_test true e = same ms x (ltb-true x row e)
-      by_test false e = refl
+  below_same ms x = grind (arith, nat_tests, same ms x)
 
   with_same : (ms : List ℕ) (parts : Parts) → make_with go ms row parts ≡ make_with go' ms row parts
   with_same ms (Leaf can) = refl

@@ -6,9 +6,10 @@ use mathlib.Core.List.{List}
 use mathlib.Core.Path.{◌≡◌, refl, sym, ◌∙◌}
 use native.Mathlib.Omega.{arith}
 use native.Mathlib.Decide.{ℕ_discrete, dec_lt}
-use lib.Dec.{eqb, ltb, leb}
-use lib.ListN.{length, get_or, set}
-use lib.Seq.{get_or-set_same, get_or-set_other, set_out}
+use lib.Dec.{ltb, leb}
+use lib.ListN.{set}
+use Rattle.std.proofs.lemmas.Grind.{common_steps}
+use Rattle.std.proofs.lemmas.Bool.Decides.{nat_tests}
 use Rattle.trace.specs.File.{row_limit, rows_of, compromised_in}
 use Rattle.laws.specs.Choose.{choose}
 use Rattle.trace.specs.Kinds.{row_at}
@@ -18,6 +19,7 @@ use Rattle.trace.specs.declared.Event.{Event}
 use Rattle.trace.specs.declared.Event.TheVariants.{Says, Notes}
 use Rattle.laws.proofs.Both.{both}
 use Rattle.spy.specs.Made.{made, makes, write_marks}
+use Rattle.closure.specs.declared.Known.{Known}
 use Rattle.closure.specs.Closure.{State, row_marked, sides_of, below, both_sides, learn_row, reopens, reopen_row, up_rows, down_rows, pass_rows, settle, see_row, see_event}
 use Rattle.rules.specs.Tests.{can_make}
 use Rattle.rules.specs.Making.{Kept}
@@ -26,14 +28,7 @@ use Rattle.rules.proofs.Making.{swept, swept_here, swept_other, far_not_made}
 
 -- a store of a mark loses none
 pub set_kept : (rs : List ℕ) (r : ℕ) → Kept rs (set rs r 1)
-set_kept rs r x m = go (ℕ_discrete x r) (dec_lt r (length rs))
-  where
-    go : Dec (x ≡ r) → Dec (r < length rs) → row_marked (set rs r 1) x ≡ true
-    go (no d) _ = rw (get_or-set_other rs r x 1 0 d) m
-    go (yes e) (no l) = rw (set_out rs r 1 (omega arith)) m
-    go (yes e) (yes l) =
-        let b = both (ltb x row_limit) (eqb (get_or rs x 0) 1) m in
-        rw (b.0, e, get_or-set_same rs r 1 0 l) refl
+set_kept rs r x m = grind (arith, common_steps, nat_tests)
 
 -- whichever way a test goes
 either_kept : {A : Type 0} (rows : A → List ℕ) (rs : List ℕ) (b : Bool) (s t : A) → Kept rs (rows s) → Kept rs (rows t) →
@@ -102,7 +97,7 @@ module _ (file : List ℕ) where
 
   pub see_kept : (rs ks : List ℕ) (E : Event) → Kept rs (see_event file rs ks E).rows
   see_kept rs ks (Says a b r) = row_kept rs ks r.0
-  see_kept rs ks (Notes a r) = either_kept rows_in _ (compromised_in file a.0) _ _ (row_kept rs ks r.0) (λ x m. m)
+  see_kept rs ks (Notes a r) = either_kept (λ (s : Known). s.rows) _ (compromised_in file a.0) _ _ (row_kept rs ks r.0) (λ x m. m)
 
 -- more is known: more can be made
 module _ (file known known' : List ℕ) (kept : Kept known known') where

@@ -4,25 +4,24 @@
 use Prim.Native.Nat.{ℕ, zero, suc, ◌<◌, ◌≤◌}
 use mathlib.Core.Bool.{Bool, true, false, ◌&&◌}
 use mathlib.Core.List.{List}
-use mathlib.Core.Logic.{◌⊎◌, inl, inr}
 use mathlib.Core.Path.{◌≡◌, refl, sym, ◌∙◌}
 use native.Mathlib.Omega.{arith}
-use native.Mathlib.Decide.{dec_lt}
 use lib.Dec.{eqb, ltb}
 use lib.ListN.{length, get_or, length-replicate, get_or-replicate, get_or-eq_default}
 use lib.Seq.{get_or-set_same, get_or-set_other}
-use borrow.Author.Tests.{ltb-true, lt-ltb, le-ltb}
+use borrow.Author.Tests.{ltb-true}
 use Rattle.std.proofs.Math.Bool.{and_self}
+use Rattle.std.proofs.lemmas.Grind.{common_steps}
+use Rattle.std.proofs.lemmas.Bool.Decides.{nat_tests}
 use Rattle.trace.specs.File.{row_limit}
 use Rattle.laws.specs.Choose.{choose}
 use Rattle.trace.specs.Kinds.{row_at}
 use Rattle.trace.specs.declared.Row.{Row}
 use Rattle.trace.specs.declared.Row.TheVariants.{Agent, Number, Nonce, Prf, PublicKey, PrivateKey, SessionKey, Hash, Crypt, Pair}
 use Rattle.laws.proofs.Both.{both}
-use Rattle.laws.proofs.First.{lt_suc}
 use Rattle.closure.specs.Closure.{row_marked, zeros}
 use Rattle.spy.specs.Made.{made, makes, mark_of, write_marks}
-use Rattle.spy.proofs.Sweep.{marks_length}
+use Rattle.spy.proofs.Makes.{marks_length}
 use Rattle.rules.specs.declared.synth.Parts.{Parts}
 use Rattle.rules.specs.declared.synth.Parts.TheVariants.{Leaf, Two}
 use Rattle.rules.specs.Tests.{can_make}
@@ -33,12 +32,8 @@ mark_is true b = refl
 mark_is false true = refl
 mark_is false false = refl
 
-zero_not_made : (x : ℕ) → made (zeros row_limit) x ≡ false
-zero_not_made x = go (dec_lt x row_limit)
-  where
-    go : Dec (x < row_limit) → made (zeros row_limit) x ≡ false
-    go (yes l) = rw (get_or-replicate {A = ℕ} row_limit x 0 0 l)
-    go (no l) = rw (get_or-eq_default (zeros row_limit) 0 {n = x} (omega (arith, length-replicate {A = ℕ} row_limit 0)))
+zero_not_made : (n x : ℕ) → made (zeros n) x ≡ false
+zero_not_made n x = grind (arith, common_steps, nat_tests, get_or-replicate {A = ℕ} n x 0 0)
 
 module _ (file known : List ℕ) where
   abbrev pub swept : ℕ → List ℕ
@@ -69,15 +64,11 @@ module _ (file known : List ℕ) where
   -- the sweep changes a row at its own step only
   later_same : (n x : ℕ) → x < n → made (swept n) x ≡ can_make file known x
   later_same zero x l = absurd (omega arith)
-  later_same (suc n) x l = go (lt_suc x n l) (λ (h : x < n). later_same n x h)
-    where
-      go : (x < n) ⊎ (x ≡ n) → (x < n → made (swept n) x ≡ can_make file known x) → made (swept (suc n)) x ≡ can_make file known x
-      go (inl h) ih = swept_other n x (λ e. omega arith) ∙ ih h
-      go (inr e) ih = rw e refl
+  later_same (suc n) x l = grind (arith, swept_other n x, later_same n x)
 
   not_yet : (n x : ℕ) → n ≤ x → made (swept n) x ≡ false
   unfolding write_marks
-  not_yet zero x l = zero_not_made x
+  not_yet zero x l = zero_not_made row_limit x
   not_yet (suc n) x l = swept_other n x (λ e. omega arith) ∙ not_yet n x (omega arith)
 
   -- a row below another can be made
@@ -85,11 +76,7 @@ module _ (file known : List ℕ) where
   can_below row x = ltb x row && can_make file known x
 
   below_is : (row x : ℕ) → made (swept row) x ≡ can_below row x
-  below_is row x = go (dec_lt x row)
-    where
-      go : Dec (x < row) → made (swept row) x ≡ can_below row x
-      go (yes l) = later_same row x l ∙ rw (lt-ltb x row l) refl
-      go (no l) = not_yet row x (omega arith) ∙ rw (le-ltb x row (omega arith)) refl
+  below_is row x = grind (arith, nat_tests, later_same row x, not_yet row x)
 
   -- by what the row is made from
   abbrev pub can_of : ℕ → Parts → Bool

@@ -46,15 +46,15 @@ module _ (file : List ℕ) (P : Promised file) where
   -- what a used row goes into is used
   sides_row : {evs : trace} (x : ℕ) (R : Row) {X : paper.msg} → Unfolds (message file) R X → Used X evs → Sides (UsedRow evs) x R
   sides_row x R (as_pair p q) u = (λ _. rw p (used_part (left self) u), λ _. rw q (used_part (right self) u))
-  sides_row x R (as_crypt p q) u = (λ _. rw q (used_part (body self) u), λ m. absurd (omega arith))
-  sides_row x R (as_agent q) u = (λ m. absurd (omega arith), λ m. absurd (omega arith))
-  sides_row x R (as_number q) u = (λ m. absurd (omega arith), λ m. absurd (omega arith))
-  sides_row x R (as_nonce q) u = (λ m. absurd (omega arith), λ m. absurd (omega arith))
-  sides_row x R (as_prf p q t) u = (λ m. absurd (omega arith), λ m. absurd (omega arith))
-  sides_row x R (as_public q) u = (λ m. absurd (omega arith), λ m. absurd (omega arith))
-  sides_row x R (as_private q) u = (λ m. absurd (omega arith), λ m. absurd (omega arith))
-  sides_row x R (as_session p q t v) u = (λ m. absurd (omega arith), λ m. absurd (omega arith))
-  sides_row x R (as_hash q) u = (λ m. absurd (omega arith), λ m. absurd (omega arith))
+  sides_row x R (as_crypt p q) u = λ _. rw q (used_part (body self) u)
+  sides_row x R (as_agent q) u = tt
+  sides_row x R (as_number q) u = tt
+  sides_row x R (as_nonce q) u = tt
+  sides_row x R (as_prf p q t) u = tt
+  sides_row x R (as_public q) u = tt
+  sides_row x R (as_private q) u = tt
+  sides_row x R (as_session p q t v) u = tt
+  sides_row x R (as_hash q) u = tt
 
   sides_used : (evs : trace) (x : ℕ) → x < rows_of file → UsedRow evs x → Sides (UsedRow evs) x (row_at file x)
   sides_used evs x l u = sides_row x (row_at file x) (P.unfolds x l) u
@@ -82,7 +82,7 @@ module _ (file : List ℕ) (P : Promised file) where
 
     crypt_row : (x : ℕ) (R : Row) {K : paper.key} {X : paper.msg} → x < rows_of file → Keeps file x R →
         Unfolds (message file) R (paper.Crypt K X) → Sides (Marked ms) x R → Has ms X
-    crypt_row x R l (crypt b h) (as_crypt {x = y} p q) c = (y.0, omega arith, q, c.0 h)
+    crypt_row x R l (crypt b h) (as_crypt {x = y} p q) c = (y.0, omega arith, q, c h)
     crypt_row x _ l _ u c = elim u [ ]
 
     body_has : {K : paper.key} {X : paper.msg} → Has ms (paper.Crypt K X) → Has ms X

@@ -14,14 +14,36 @@ use borrow.Author.Tests.{ltb-true, lt-ltb, lt-leb}
 use Rattle.trace.specs.File.{row_limit}
 use Rattle.trace.specs.Kinds.{row_at}
 use Rattle.trace.specs.declared.Row.{Row}
+use Rattle.trace.specs.declared.Row.TheVariants.{Agent, Number, Nonce, Prf, PublicKey, PrivateKey, SessionKey, Hash, Crypt, Pair}
 use Rattle.laws.proofs.First.{bool_cases}
 use Rattle.closure.specs.Closure.{row_marked}
 use Rattle.closure.proofs.Marks.{Marked, row_same, row_other, row_keep}
-use Rattle.used.specs.Marking.{parts_of, used_below, use_with, use_row}
+use Rattle.used.specs.Marking.{used_below, use_parts, use_row}
 
--- both sides of row x, where they are below it, have H
+-- what row x goes into, where it is below it, has H
 abbrev pub Sides : (ℕ → Type 0) → ℕ → Row → Type 0
-Sides H x R = ((parts_of x R).left < x → H (parts_of x R).left) × ((parts_of x R).right < x → H (parts_of x R).right)
+Sides H x (Agent a) = Unit {0}
+Sides H x (Number n) = Unit {0}
+Sides H x (Nonce n) = Unit {0}
+Sides H x (Prf s y z) = Unit {0}
+Sides H x (PublicKey a) = Unit {0}
+Sides H x (PrivateKey a) = Unit {0}
+Sides H x (SessionKey o y z m) = Unit {0}
+Sides H x (Hash y) = Unit {0}
+Sides H x (Crypt k y) = y.0 < x → H y.0
+Sides H x (Pair y z) = (y.0 < x → H y.0) × (z.0 < x → H z.0)
+
+sides_map : (H H' : ℕ → Type 0) → ((y : ℕ) → H y → H' y) → (x : ℕ) (R : Row) → Sides H x R → Sides H' x R
+sides_map H H' f x (Agent a) s = tt
+sides_map H H' f x (Number n) s = tt
+sides_map H H' f x (Nonce n) s = tt
+sides_map H H' f x (Prf v y z) s = tt
+sides_map H H' f x (PublicKey a) s = tt
+sides_map H H' f x (PrivateKey a) s = tt
+sides_map H H' f x (SessionKey o y z m) s = tt
+sides_map H H' f x (Hash y) s = tt
+sides_map H H' f x (Crypt k y) s = λ l. f y.0 (s l)
+sides_map H H' f x (Pair y z) s = (λ l. f y.0 (s.0 l), λ l. f z.0 (s.1 l))
 
 abbrev pub Closed : List ℕ → List ℕ → ℕ → Type 0
 Closed file ms x = Marked ms x → Sides (Marked ms) x (row_at file x)
@@ -58,7 +80,7 @@ module _ (file : List ℕ) (n : ℕ) (few : n ≤ row_limit) (H : ℕ → Type 0
     others x d m = sym (row_other b g.room row x d) ∙ m
 
     sides_grow : (x : ℕ) → Sides (Marked b) x (row_at file x) → Sides (Marked (set b row 1)) x (row_at file x)
-    sides_grow x s = (λ l. grow (parts_of x (row_at file x)).left (s.0 l), λ l. grow (parts_of x (row_at file x)).right (s.1 l))
+    sides_grow x s = sides_map (Marked b) (Marked (set b row 1)) grow x (row_at file x) s
 
     closed_mark : (x : ℕ) → Closed file ms x → Dec (x ≡ row) → Closed file (set b row 1) x
     closed_mark x c (yes q) m = rw q (sides_grow row sides)
@@ -99,18 +121,28 @@ module _ (file : List ℕ) (n : ℕ) (few : n ≤ row_limit) (H : ℕ → Type 0
         Grew ms (used_below go ms row x) × (x < row → Marked (used_below go ms row x) x)
     below_grew ms x r h = below_cases ms x r h (ltb x row) refl
 
+    parts_grew : (ms : List ℕ) (R : Row) → length ms ≡ row_limit → Sides H row R →
+        Grew ms (use_parts go ms row R) × Sides (Marked (use_parts go ms row R)) row R
+    parts_grew ms (Agent a) r s = (grew_still ms r, tt)
+    parts_grew ms (Number v) r s = (grew_still ms r, tt)
+    parts_grew ms (Nonce v) r s = (grew_still ms r, tt)
+    parts_grew ms (Prf v x y) r s = (grew_still ms r, tt)
+    parts_grew ms (PublicKey a) r s = (grew_still ms r, tt)
+    parts_grew ms (PrivateKey a) r s = (grew_still ms r, tt)
+    parts_grew ms (SessionKey o x y z) r s = (grew_still ms r, tt)
+    parts_grew ms (Hash x) r s = (grew_still ms r, tt)
+    parts_grew ms (Crypt k x) r s = below_grew ms x.0 r s
+    parts_grew ms (Pair x y) r s =
+        let l = below_grew ms x.0 r s.0 in
+        let g = below_grew (used_below go ms row x.0) y.0 l.0.room s.1 in
+        (grew_then l.0 g.0, (λ h. g.0.rows x.0 (l.1 h), g.1))
+
     with_grew : (ms : List ℕ) → length ms ≡ row_limit → H row →
-        Grew ms (use_with go ms row (parts_of row (row_at file row))) × Marked (use_with go ms row (parts_of row (row_at file row))) row
+        Grew ms (set (use_parts go ms row (row_at file row)) row 1) × Marked (set (use_parts go ms row (row_at file row)) row 1) row
     with_grew ms r has =
-        let s = parts_of row (row_at file row) in
-        let p = parts row in_file has in
-        let b = used_below go ms row s.left in
-        let l = below_grew ms s.left r p.0 in
-        let g = below_grew b s.right l.0.room p.1 in
-        let c = used_below go b row s.right in (
-          grew_mark ms row in_file has c (grew_then l.0 g.0) (λ h. g.0.rows s.left (l.1 h), g.1),
-          row_same c g.0.room row (omega arith),
-        )
+        let b = use_parts go ms row (row_at file row) in
+        let g = parts_grew ms (row_at file row) r (parts row in_file has) in
+        (grew_mark ms row in_file has b g.0 g.1, row_same b g.0.room row (omega arith))
 
   use_cases : (d : ℕ) → Uses d → (ms : List ℕ) (row : ℕ) → length ms ≡ row_limit → row < n → H row → row ≤ d →
       (row_marked ms row ≡ true) ⊎ (row_marked ms row ≡ false) →

@@ -1,4 +1,3 @@
-pub mod Fields
 pub mod Deep
 pub mod Grown
 pub mod Exactly
