@@ -71,16 +71,17 @@ fn box_for(wanted: Wanted) -> Option<u16>
     ensures in_range { IfSome result (λ b. b < box_count) }
 {
     match wanted {
-        Wanted::HelloFor(to, _, _) => Some(to % AGENTS),
-        Wanted::HelloBy(_, to, _, _, _) => Some(to % AGENTS),
-        Wanted::HelloTo(to, _, _, _, _) => Some(to % AGENTS),
-        Wanted::ReplyWith(to, _) => Some(to % AGENTS),
-        Wanted::ReplyTo(to, _, _, _) => Some(to % AGENTS),
-        Wanted::ReplyBy(_, to, _, _, _) => Some(to % AGENTS),
-        Wanted::Cert(to, _, _) => Some(to % AGENTS),
-        Wanted::Secret(from, _, _) => Some(NOTES + from % AGENTS),
-        Wanted::Sent(to, _) => Some(to % AGENTS),
-        Wanted::Session(from, _, _, _, _) => Some(NOTES + from % AGENTS),
+        Wanted::HelloFor(to, _, _)
+        | Wanted::HelloBy(_, to, _, _, _)
+        | Wanted::HelloTo(to, _, _, _, _)
+        | Wanted::ReplyWith(to, _)
+        | Wanted::ReplyTo(to, _, _, _)
+        | Wanted::ReplyBy(_, to, _, _, _)
+        | Wanted::Cert(to, _, _)
+        | Wanted::Sent(to, _) => Some(to % AGENTS),
+        Wanted::Secret(from, _, _) | Wanted::Session(from, _, _, _, _) => {
+            Some(NOTES + from % AGENTS)
+        }
         Wanted::Under(_, _) => None,
     }
 }

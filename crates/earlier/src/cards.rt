@@ -116,16 +116,16 @@ pub fn fits_agents(wanted: Wanted, event: Event) -> bool
     ensures { result ≡ fits_agents wanted (heard_in event) }
 {
     match wanted {
-        Wanted::HelloFor(to, _, _) => said_to(event, to),
-        Wanted::HelloBy(from, to, _, _, _) => said_by(event, from, to),
-        Wanted::HelloTo(to, _, _, _, _) => said_to(event, to),
-        Wanted::ReplyWith(to, _) => said_to(event, to),
-        Wanted::ReplyTo(to, _, _, _) => said_to(event, to),
-        Wanted::ReplyBy(from, to, _, _, _) => said_by(event, from, to),
-        Wanted::Cert(to, _, _) => said_to(event, to),
-        Wanted::Secret(from, _, _) => noted_by(event, from),
-        Wanted::Sent(to, _) => said_to(event, to),
-        Wanted::Session(from, _, _, _, _) => noted_by(event, from),
+        Wanted::HelloFor(to, _, _)
+        | Wanted::HelloTo(to, _, _, _, _)
+        | Wanted::ReplyWith(to, _)
+        | Wanted::ReplyTo(to, _, _, _)
+        | Wanted::Cert(to, _, _)
+        | Wanted::Sent(to, _) => said_to(event, to),
+        Wanted::HelloBy(from, to, _, _, _) | Wanted::ReplyBy(from, to, _, _, _) => {
+            said_by(event, from, to)
+        }
+        Wanted::Secret(from, _, _) | Wanted::Session(from, _, _, _, _) => noted_by(event, from),
         Wanted::Under(from, _) => matches!(event, Event::Says(sender, _, _) if sender.0 == from),
     }
 }

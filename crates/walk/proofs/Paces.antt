@@ -1,37 +1,20 @@
--- One step of the walk: where it stops, where it goes on, and the arrays after an event.
+-- One step of the walk: where it stops, and where it goes on.
 -- Assumes nothing.
 use Prim.Native.Nat.{ℕ, zero, suc, ◌+◌, ◌<◌, ◌≤◌}
 use mathlib.Core.Bool.{Bool, true, false, ◌&&◌}
 use mathlib.Core.List.{List}
-use mathlib.Core.Path.{◌≡◌, refl, sym, ◌∙◌, ap, subst}
+use mathlib.Core.Path.{◌≡◌, refl, sym, ◌∙◌, ap}
 use native.Mathlib.Omega.{arith}
 use native.Mathlib.Numerals.{add-one}
+use native.Mathlib.Decide.{dec_lt}
+use Rattle.std.specs.Prelude.{Some, None}
 use lib.Dec.{ltb}
 use lib.ListN.{length, set, length-set}
 use borrow.Author.Tests.{lt-ltb, le-ltb, ltb-true}
 use Rattle.laws.specs.Choose.{choose}
-use Rattle.trace.specs.File.{row_limit, event_limit, agent_limit, rows_of}
-use Rattle.trace.specs.Events.{event_at}
-use Rattle.closure.specs.Closure.{key_room, see_event, start_keys, start_rows, zeros}
-use Rattle.closure.proofs.Folds.{known_start, known_more}
-use Rattle.used.specs.Marking.{use_event, used_after}
-use Rattle.earlier.specs.Heard.{Heard}
-use Rattle.earlier.specs.declared.Wanted.{Wanted}
-use Rattle.earlier.specs.Earlier.{heard_at, past}
-use Rattle.earlier.specs.Boxes.{found}
-use Rattle.earlier.specs.Kept.{kept_in, Boxed}
-use Rattle.earlier.proofs.Keeping.{keep_boxed}
-use Rattle.earlier.proofs.Finding.{found_past}
-use Rattle.accepts.specs.declared.Session.{Session}
-use Rattle.accepts.specs.declared.Side.{Side}
-use Rattle.accepts.specs.Hashes.{both_in}
-use Rattle.accepts.proofs.Hashes.{both_past}
-use Rattle.rules.specs.Tests.{key_exchange}
-use Rattle.rules.specs.Making.{Kept}
-use Rattle.rules.proofs.Growing.{see_kept}
-use Rattle.walk.specs.Lowest.{lowest_said, lowest_noted, lowest_rule, rule_of, exchange_of}
+use Rattle.walk.specs.Lowest.{rule_of, exchange_of}
 use Rattle.walk.specs.Walk.{Walked, walked_to, walk, walkable, walk_file, cleared}
-use Rattle.walk.specs.Pace.{pace, paced, Before}
+use Rattle.walk.specs.Pace.{pace, paced, taken_or_none}
 
 module _ (rule : ℕ → ℕ) (exchange : ℕ → Bool) (N : ℕ) where
   -- at the end
@@ -132,31 +115,6 @@ module _ (rule : ℕ → ℕ) (exchange : ℕ → Bool) (N : ℕ) where
     rw (p, b) (e ∙ walk_by d i bytes l ∙ by_go d i bytes (ltb 0 (rule i)) (ltb (suc i) N && exchange i) (λ q. z (p ∙ q))),
   )
 
-  -- what a step tells, by its tests
-  abbrev pub Told : (n i : ℕ) (bytes bytes' : List ℕ) → Type 0
-  Told n i bytes bytes' = (n ≡ pace rule exchange N i) × (bytes' ≡ paced rule exchange N i bytes)
-
-  told_one : (i k : ℕ) (bytes bytes' : List ℕ) → k ≡ rule i → 0 < k → bytes' ≡ set bytes i k → Told 1 i bytes bytes'
-  told_one i k bytes bytes' e l q =
-      let t : ltb 0 (rule i) ≡ true = ap (ltb 0) (sym e) ∙ lt-ltb 0 k l in
-      (rw t refl, rw (t, ← e) q)
-
-  told_two : (i k : ℕ) (bytes bytes' : List ℕ) → k ≡ rule i → k ≤ 0 → suc i < N → exchange i ≡ true →
-      bytes' ≡ set (set bytes i 6) (suc i) 6 → Told 2 i bytes bytes'
-  told_two i k bytes bytes' e l s x q =
-      let t : ltb 0 (rule i) ≡ false = ap (ltb 0) (sym e) ∙ le-ltb 0 k l in
-      (rw (t, lt-ltb (suc i) N s, x) refl, rw (t, lt-ltb (suc i) N s, x) q)
-
-  told_last : (i k : ℕ) (bytes : List ℕ) → k ≡ rule i → k ≤ 0 → N ≤ suc i → Told 0 i bytes bytes
-  told_last i k bytes e l s =
-      let t : ltb 0 (rule i) ≡ false = ap (ltb 0) (sym e) ∙ le-ltb 0 k l in
-      (rw (t, le-ltb (suc i) N s) refl, rw (t, le-ltb (suc i) N s) refl)
-
-  told_none : (i k : ℕ) (bytes : List ℕ) → k ≡ rule i → k ≤ 0 → suc i < N → exchange i ≡ false → Told 0 i bytes bytes
-  told_none i k bytes e l s x =
-      let t : ltb 0 (rule i) ≡ false = ap (ltb 0) (sym e) ∙ le-ltb 0 k l in
-      (rw (t, lt-ltb (suc i) N s, x) refl, rw (t, lt-ltb (suc i) N s, x) refl)
-
 -- the cleared buffer
 pub cleared_length : (n : ℕ) (bytes : List ℕ) → length (cleared n bytes) ≡ length bytes
 unfolding cleared
@@ -172,6 +130,21 @@ pub cleared_more : (i : ℕ) (bytes bs bs' : List ℕ) → bs ≡ cleared i byte
 unfolding cleared
 cleared_more i bytes bs bs' e q = rw (add-one, ← e) q
 
+-- the step's number, and that there is one
+pub taken_some : (n k : ℕ) → taken_or_none n ≡ Some k → (k ≡ n) × (0 < n)
+taken_some n k = go (dec_lt 0 n)
+  where
+    go : Dec (0 < n) → taken_or_none n ≡ Some k → (k ≡ n) × (0 < n)
+    go (yes l) e = let q : Some n ≡ Some k = rw (lt-ltb 0 n l) at e in (cc, l)
+    go (no l) e = let q : None ≡ Some k = rw (le-ltb 0 n (omega arith)) at e in absurd cc
+
+pub taken_none : (n : ℕ) → taken_or_none n ≡ None → n ≡ 0
+taken_none n = go (dec_lt 0 n)
+  where
+    go : Dec (0 < n) → taken_or_none n ≡ None → n ≡ 0
+    go (yes l) e = let q : Some n ≡ None = rw (lt-ltb 0 n l) at e in absurd cc
+    go (no l) e = omega arith
+
 -- the walk's answer
 pub walk_ends : (file bytes₀ : List ℕ) (N i : ℕ) (bytes bytes' : List ℕ) → N ≡ walkable file →
     walk (rule_of file) (exchange_of file) N N 0 bytes₀ ≡ walked_to i bytes → bytes' ≡ bytes →
@@ -179,4 +152,3 @@ pub walk_ends : (file bytes₀ : List ℕ) (N i : ℕ) (bytes bytes' : List ℕ)
 walk_ends file bytes₀ N i bytes bytes' e w q =
     let f : walk_file file bytes₀ ≡ walked_to i bytes = ap (λ (n : ℕ). walk (rule_of file) (exchange_of file) n n 0 bytes₀) (sym e) ∙ w in
     (sym (ap (λ (x : Walked). x.length) f), q ∙ sym (ap (λ (x : Walked). x.bytes) f))
-

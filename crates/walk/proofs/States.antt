@@ -1,12 +1,11 @@
 -- The state of the walk: before the first event, after one more, and what the tests over it say of an event.
 -- Assumes nothing.
-use Prim.Native.Nat.{ℕ, suc, ◌+◌, ◌<◌}
+use Prim.Native.Nat.{ℕ, suc, ◌<◌}
 use mathlib.Core.Bool.{Bool, true, false}
 use mathlib.Core.List.{List}
 use mathlib.Core.Path.{◌≡◌, refl, sym, ◌∙◌, ap, subst}
-use native.Mathlib.Omega.{arith}
-use native.Mathlib.Numerals.{add-one}
-use Rattle.std.specs.Prelude.{Option}
+use Rattle.std.specs.Prelude.{Option, Some, None}
+use Rattle.std.specs.Bool.{then_some}
 use Rattle.laws.specs.Choose.{choose}
 use Rattle.trace.specs.declared.Event.{Event}
 use Rattle.trace.specs.File.{row_limit, event_limit}
@@ -15,7 +14,7 @@ use Rattle.closure.specs.declared.Known.{Known}
 use Rattle.closure.specs.Closure.{see_event, known_after, zeros}
 use Rattle.used.specs.Marking.{use_event, used_after}
 use Rattle.earlier.specs.Heard.{Heard}
-use Rattle.earlier.specs.Earlier.{heard_in, heard_at, past}
+use Rattle.earlier.specs.Earlier.{heard_in, past}
 use Rattle.earlier.specs.declared.boxes.Boxes.{Boxes}
 use Rattle.earlier.specs.Boxes.{found}
 use Rattle.earlier.specs.Kept.{none_kept, kept_in}
@@ -24,12 +23,21 @@ use Rattle.earlier.proofs.Finding.{found_past}
 use Rattle.accepts.specs.Hashes.{both_in}
 use Rattle.accepts.proofs.Hashes.{both_past}
 use Rattle.rules.specs.Tests.{fake, key_exchange}
-use Rattle.rules.specs.Making.{told, try_fake, SoundMarks, Kept}
+use Rattle.rules.specs.Making.{told, try_fake, Kept}
 use Rattle.rules.proofs.Carried.{none_sound, tried}
 use Rattle.rules.proofs.Growing.{see_kept, can_more}
 use Rattle.walk.specs.declared.State.{State}
 use Rattle.walk.specs.Lowest.{rule_or_none, lowest_said, lowest_noted, lowest_rule, rule_of, exchange_of}
 use Rattle.walk.specs.Pace.{Before}
+
+-- what an Option of a test tells of it
+pub some_true : {A : Type 0} {y : A} (x : A) (b : Bool) → then_some b x ≡ Some y → b ≡ true
+some_true x true e = refl
+some_true x false e = cc
+
+pub none_false : {A : Type 0} (x : A) (b : Bool) → then_some b x ≡ None → b ≡ false
+none_false x true e = cc
+none_false x false e = refl
 
 pub before_first : (file : List ℕ) {k : Known} {bs : Boxes} → k ≡ known_after file 0 → bs ≡ none_kept →
     Before file 0 (record { used = zeros row_limit; known = k; boxes = bs; made = zeros row_limit })
@@ -80,10 +88,10 @@ module _ (file : List ℕ) (i : ℕ) (s : State) (b : Before file i s) where
   unfolding lowest_rule
   by_says {e} q t = rw t at (rule_is q)
 
-  pub said_is : {e d : Event} {k : Option ℕ} → e ≡ event_at file i → e ≡ d → (heard_in d).says ≡ true →
-      k ≡ rule_or_none (lowest_said file s.used s.known.rows (found file s.boxes) (heard_in d)) → k ≡ rule_or_none (rule_of file i)
-  said_is q w t v = v ∙ ap rule_or_none (by_says (sym w ∙ q) t)
+  pub said_is : {e : Event} {k : Option ℕ} → e ≡ event_at file i → (heard_in e).says ≡ true →
+      k ≡ rule_or_none (lowest_said file s.used s.known.rows (found file s.boxes) (heard_in e)) → k ≡ rule_or_none (rule_of file i)
+  said_is q t v = v ∙ ap rule_or_none (by_says q t)
 
-  pub noted_is : {e d : Event} {k : Option ℕ} → e ≡ event_at file i → e ≡ d → (heard_in d).says ≡ false →
-      k ≡ rule_or_none (lowest_noted file s.known.rows (found file s.boxes) (both_in file s.boxes i) (heard_in d)) → k ≡ rule_or_none (rule_of file i)
-  noted_is q w t v = v ∙ ap rule_or_none (by_says (sym w ∙ q) t)
+  pub noted_is : {e : Event} {k : Option ℕ} → e ≡ event_at file i → (heard_in e).says ≡ false →
+      k ≡ rule_or_none (lowest_noted file s.known.rows (found file s.boxes) (both_in file s.boxes i) (heard_in e)) → k ≡ rule_or_none (rule_of file i)
+  noted_is q t v = v ∙ ap rule_or_none (by_says q t)

@@ -1,6 +1,5 @@
 -- `walk::clear` meets its contract: one turn more is one byte more of `cleared`.
 -- Assumes nothing.
-use Rattle.std.proofs.Common.{◌∙◌}
 use Rattle.walk.proofs.Paces.{cleared_none, cleared_more}
 use Rattle.walk.proofs.clear.Goals as goal
 

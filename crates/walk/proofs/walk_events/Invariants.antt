@@ -1,7 +1,6 @@
 -- `walk::walk_events` meets its contract: what is left of the walk from event i stays the same.
 -- Assumes nothing.
 use Prim.Native.Nat.{◌≤◌, ◌-◌}
-use mathlib.Core.Path.{◌≡◌}
 use Rattle.walk.specs.Walk.{walk}
 use Rattle.walk.specs.Lowest.{rule_of, exchange_of}
 use Rattle.walk.specs.Pace.{Before}
