@@ -2,7 +2,9 @@
 #![tactic(auto)]
 
 ghost use Rattle.std.specs.Prelude.{◌≡◌, ◌%◌, set};
-ghost use Rattle.cases.specs.Room.{sample_room};
+ghost use Rattle.cases.specs.Room.{sample_room, edited};
+
+pub mod print;
 
 pub const ROOM: usize = 256;
 
@@ -44,14 +46,31 @@ pub fn sample() -> [u8; ROOM]
     SAMPLE
 }
 
+// A place past the file's end takes nothing.
+pub fn put(file: &mut [u8], at: usize, byte: u8)
+    ensures { file.new ≡ set file.old at byte }
+{
+    if at < file.len() {
+        file[at] = byte;
+    }
+}
+
+// The file after these changes, each a place and its new byte.
+#[tactic(auto, unfolding(crate::specs::Room::edited))]
+pub fn with_edits(file: [u8; ROOM], edits: &[(u16, u16)]) -> [u8; ROOM]
+    ensures { result ≡ edited file edits.now }
+{
+    let mut changed = file;
+    for &(at, value) in edits {
+        put(&mut changed, usize::from(at), (value % 256) as u8);
+    }
+    changed
+}
+
 // The file with one byte changed; a place past its end changes nothing.
+#[tactic(auto, unfolding(crate::specs::Room::edited))]
 pub fn with_byte(file: [u8; ROOM], at: u16, value: u16) -> [u8; ROOM]
     ensures { result ≡ set file at (value % 256) }
 {
-    let mut changed = file;
-    let place = at as usize;
-    if place < ROOM {
-        changed[place] = (value % 256) as u8;
-    }
-    changed
+    with_edits(file, &[(at, value)])
 }

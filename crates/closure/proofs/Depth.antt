@@ -17,7 +17,7 @@ use Rattle.trace.specs.declared.Row.TheVariants.{Agent, Number, Nonce, Prf, Publ
 use Rattle.trace.specs.declared.AgentNo.{AgentNo}
 use Rattle.trace.specs.declared.RowNo.{RowNo}
 use Rattle.trace.specs.declared.Role.{Role}
-use Rattle.laws.proofs.Both.{or_true, or_none, and_false}
+use Rattle.laws.proofs.Both.{or_true, or_none}
 use Rattle.laws.proofs.First.{bool_cases, lt_suc}
 use Rattle.closure.specs.Closure.{Sides, State, state_of, row_marked, know, know_row, opens, no_sides, sides_of, below, both_sides, learn_with, learn_row, is_crypt, reopen_row}
 
@@ -100,7 +100,7 @@ module _ (file : List ℕ) where
       learn_session o x y z e = rw (← opened (SessionKey o x y z) e, ← no_side {t = rs} {u = ks}, ← no_side {t = rs} {u = ks}) refl
 
       -- a row that opens into nothing and is no key
-      pub learn_leaf : (R : Row) → R ≡ row_at file row → sides_of file rs ks row R ≡ no_sides row false → know_row ks R ≡ ks →
+      learn_leaf : (R : Row) → R ≡ row_at file row → sides_of file rs ks row R ≡ no_sides row false → know_row ks R ≡ ks →
           state_of (set rs row 1) ks false ≡ learn_row file (suc row) rs ks row
       learn_leaf R e n k = rw (← opened R e, n, ← no_side {t = rs} {u = ks}, ← no_side {t = rs} {u = ks}, k) refl
 
@@ -133,9 +133,6 @@ module _ (file : List ℕ) where
         go (yes l) = learn_known rs ks x m ∙ below_taken rs ks row x l
         go (no l) = below_left rs ks row x (omega arith)
 
-    pub reopen_unmarked : row_marked rs row ≡ false → state_of rs ks false ≡ reopen_row file rs ks row
-    reopen_unmarked u = rw (u, reopen_row) refl
-
     module _ (m : row_marked rs row ≡ true) (k x : RowNo) (e : Crypt k x ≡ row_at file row) where
       -- the body is the left side, and there is no right one
       sides_are : (R : Row) → R ≡ row_at file row → is_crypt R ≡ true → both_sides (learn_row file row) rs ks row (sides_of file rs ks row R) ≡ reopen_row file rs ks row
@@ -143,7 +140,7 @@ module _ (file : List ℕ) where
           let d : is_crypt (row_at file row) ≡ true = rw (← e') c in
           rw (e', m, d, reopen_row) refl
 
-      pub reopen_opens : opens file rs ks k.0 ≡ true → (rs' ks' : List ℕ) (g : Bool) → state_of rs' ks' g ≡ below (learn_row file row) rs ks row x.0 →
+      reopen_opens : opens file rs ks k.0 ≡ true → (rs' ks' : List ℕ) (g : Bool) → state_of rs' ks' g ≡ below (learn_row file row) rs ks row x.0 →
           state_of rs' ks' g ≡ reopen_row file rs ks row
       reopen_opens o rs' ks' g h = rw (o, ← h, ← below_left rs' ks' row row (omega arith), or_none g) refl ∙ sides_are (Crypt k x) e refl
 
@@ -152,21 +149,3 @@ module _ (file : List ℕ) where
 
       pub reopen_opened : row_marked rs x.0 ≡ true → state_of rs ks false ≡ reopen_row file rs ks row
       reopen_opened b = ⊎_elim (λ o. reopen_opens o rs ks false (below_marked x.0 b)) reopen_closed (bool_cases (opens file rs ks k.0))
-
-    -- a row that is no Crypt
-    crypt_not : (R : Row) → ((k x : RowNo) → ¬ (R ≡ Crypt k x)) → is_crypt R ≡ false
-    crypt_not (Agent a) n = refl
-    crypt_not (Number v) n = refl
-    crypt_not (Nonce v) n = refl
-    crypt_not (Prf s x y) n = refl
-    crypt_not (PublicKey a) n = refl
-    crypt_not (PrivateKey a) n = refl
-    crypt_not (SessionKey o x y z) n = refl
-    crypt_not (Hash x) n = refl
-    crypt_not (Crypt k x) n = absurd (n k x refl)
-    crypt_not (Pair x y) n = refl
-
-    pub reopen_other : (R : Row) → R ≡ row_at file row → ((k x : RowNo) → ¬ (R ≡ Crypt k x)) → state_of rs ks false ≡ reopen_row file rs ks row
-    reopen_other R e n =
-        let c : is_crypt (row_at file row) ≡ false = rw (← e) (crypt_not R n) in
-        rw (c, and_false (row_marked rs row), reopen_row) refl

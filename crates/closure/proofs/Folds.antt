@@ -1,55 +1,19 @@
 -- The loops' definitions, one turn more, and what is left of settling.
 -- Assumes nothing.
 use Prim.Native.Nat.{ℕ, zero, suc, ◌+◌, ◌-◌, ◌<◌}
-use mathlib.Core.Bool.{Bool, true, false, ◌||◌}
+use mathlib.Core.Bool.{Bool, true, false}
 use mathlib.Core.List.{List}
-use mathlib.Core.Path.{◌≡◌, refl, sym, ◌∙◌}
+use mathlib.Core.Path.{◌≡◌, refl, sym}
 use native.Mathlib.Omega.{arith}
 use native.Mathlib.Numerals.{add-one}
 use Rattle.trace.specs.File.{row_limit, agent_limit, rows_of, compromised_in}
 use Rattle.laws.specs.Choose.{choose}
 use Rattle.trace.specs.Events.{event_at}
 use Rattle.trace.specs.Kinds.{row_at}
-use Rattle.laws.proofs.Both.{or_true, or_none}
 use Rattle.closure.specs.declared.Known.{Known}
-use Rattle.closure.specs.Closure.{see_event, known_after, State, state_of, know, reopen_row, up_rows, down_rows, pass_rows, settle, start_keys, key_known, mark_row, start_rows}
+use Rattle.closure.specs.Closure.{see_event, known_after, State, state_of, know, up_rows, down_rows, pass_rows, settle, start_keys, key_known, mark_row, start_rows}
 
 module _ (file : List ℕ) where
-  pub up_none : (rows keys : List ℕ) → state_of rows keys false ≡ up_rows file 0 rows keys
-  unfolding up_rows
-  up_none rows keys = refl
-
-  pub up_more : (r : ℕ) (rows keys rs ks rs' ks' : List ℕ) (f g : Bool) →
-      state_of rs ks f ≡ up_rows file r rows keys → state_of rs' ks' g ≡ reopen_row file rs ks r →
-      state_of rs' ks' (f || g) ≡ up_rows file (r + 1) rows keys
-  unfolding up_rows
-  up_more r rows keys rs ks rs' ks' f g e q = rw (add-one, ← e, ← q)
-
-  -- a turn that makes a key known, and one that makes none
-  module _ (r : ℕ) (rows keys rs ks rs' ks' : List ℕ) (f : Bool) {g h : Bool} (e : state_of rs ks f ≡ up_rows file r rows keys)
-      (q : state_of rs' ks' g ≡ reopen_row file rs ks r) where
-    pub up_found : g ≡ true → h ≡ true → state_of rs' ks' h ≡ up_rows file (r + 1) rows keys
-    up_found z w = rw (w, ← or_true f, ← z) (up_more r rows keys rs ks rs' ks' f g e q)
-
-    pub up_kept : g ≡ false → h ≡ f → state_of rs' ks' h ≡ up_rows file (r + 1) rows keys
-    up_kept z w = rw (w, ← or_none f, ← z) (up_more r rows keys rs ks rs' ks' f g e q)
-
-  -- what is left of the way down gives the end
-  down_step : (m : ℕ) (rs ks rs' ks' : List ℕ) (g : Bool) → state_of rs' ks' g ≡ reopen_row file rs ks m →
-      down_rows file m rs' ks' ≡ down_rows file (suc m) rs ks
-  unfolding down_rows
-  down_step m rs ks rs' ks' g w = rw (← w) refl
-
-  pub down_more : (r : ℕ) (rs ks rs' ks' : List ℕ) (g : Bool) {t : State} → 0 < r → down_rows file r rs ks ≡ t →
-      state_of rs' ks' g ≡ reopen_row file rs ks (r - 1) → down_rows file (r - 1) rs' ks' ≡ t
-  down_more r rs ks rs' ks' g l e q =
-      let p : suc (r - 1) ≡ r = omega arith in
-      down_step (r - 1) rs ks rs' ks' g q ∙ rw p e
-
-  pub down_end : (r : ℕ) (rs ks : List ℕ) {t : State} → r ≡ 0 → down_rows file r rs ks ≡ t → state_of rs ks true ≡ t
-  unfolding down_rows
-  down_end r rs ks z e = rw z at e
-
   pass_on : (n : ℕ) (rows keys : List ℕ) → (up_rows file n rows keys).fresh ≡ true →
       pass_rows file n rows keys ≡ down_rows file n (up_rows file n rows keys).rows (up_rows file n rows keys).keys
   unfolding pass_rows
@@ -81,21 +45,13 @@ module _ (file : List ℕ) where
   unfolding start_rows
   rows_more keys r rows rs rs' e q = rw (add-one, ← e) q
 
-  pub keys_none : (keys : List ℕ) → keys ≡ start_keys file 0 keys
-  unfolding start_keys
-  keys_none keys = refl
-
-  pub rows_none : (keys rows : List ℕ) → rows ≡ start_rows file keys 0 rows
-  unfolding start_rows
-  rows_none keys rows = refl
-
   -- settling ends where no key is fresh, and goes on by a pass where one is
-  pub settled : (d : ℕ) (rs ks : List ℕ) → settle file d (state_of rs ks false) ≡ state_of rs ks false
+  settled : (d : ℕ) (rs ks : List ℕ) → settle file d (state_of rs ks false) ≡ state_of rs ks false
   unfolding settle
   settled zero rs ks = refl
   settled (suc d) rs ks = refl
 
-  pub settle_none : (s : State) → settle file 0 s ≡ s
+  settle_none : (s : State) → settle file 0 s ≡ s
   unfolding settle
   settle_none s = refl
 
@@ -103,7 +59,7 @@ module _ (file : List ℕ) where
   unfolding settle
   settle_suc d rs ks = refl
 
-  pub settle_pass : (p : ℕ) (rs ks : List ℕ) → p < row_limit →
+  settle_pass : (p : ℕ) (rs ks : List ℕ) → p < row_limit →
       settle file (row_limit - p) (state_of rs ks true) ≡ settle file (row_limit - (p + 1)) (pass_rows file (rows_of file) rs ks)
   settle_pass p rs ks l =
       let e : row_limit - p ≡ suc (row_limit - (p + 1)) = omega arith in

@@ -19,7 +19,7 @@ use Rattle.trace.specs.declared.Row.TheVariants.{Agent, Number, Nonce, Prf, Publ
 use Rattle.laws.proofs.First.{bool_cases}
 use Rattle.laws.proofs.Both.{or_false, or_false_right}
 use Rattle.closure.specs.Closure.{key_room, Sides, State, state_of, row_marked, know_row, opens_row, opens, sides_of, below, both_sides, learn_with, learn_row, is_crypt}
-use Rattle.closure.proofs.Marks.{Marked, Known, row_same, row_other, row_keep, know_same, know_row_keep, know_row_room}
+use Rattle.closure.proofs.Marks.{Marked, Known, mark_same, mark_other, mark_keep, know_same, know_row_keep, know_row_room}
 
 -- the key of a key row is known
 abbrev pub Held : List ℕ → Row → Type 0
@@ -177,14 +177,14 @@ module _ (file : List ℕ) (P : Promised file) where
   opens_other rs ks room row k (Prf s x y) n = refl
   opens_other rs ks room row k (PublicKey a) n = refl
   opens_other rs ks room row k (PrivateKey a) n = refl
-  opens_other rs ks room row k (SessionKey o x y z) n = row_other rs room row k n
+  opens_other rs ks room row k (SessionKey o x y z) n = mark_other rs room row k n
   opens_other rs ks room row k (Hash x) n = refl
   opens_other rs ks room row k (Crypt l x) n = refl
   opens_other rs ks room row k (Pair x y) n = refl
 
-  mark_same : (rs ks rs₀ ks₀ : List ℕ) → length rs ≡ row_limit → (row k : ℕ) → (sides_at rs₀ ks₀ row).key ≡ false →
+  opens_same : (rs ks rs₀ ks₀ : List ℕ) → length rs ≡ row_limit → (row k : ℕ) → (sides_at rs₀ ks₀ row).key ≡ false →
       opens file (set rs row 1) (know_row ks (row_at file row)) k ≡ opens file rs ks k
-  mark_same rs ks rs₀ ks₀ room row k e =
+  opens_same rs ks rs₀ ks₀ room row k e =
       rw (know_row_none rs₀ ks₀ ks row (row_at file row) e) (go (ℕ_discrete k row))
     where
       go : Dec (k ≡ row) → opens file (set rs row 1) ks k ≡ opens file rs ks k
@@ -218,13 +218,13 @@ module _ (file : List ℕ) (P : Promised file) where
     few = omega (arith, P.few_rows)
 
     grow : (x : ℕ) → Marked b.rows x → Marked t.rows x
-    grow x m = row_keep b.rows g.room row x m
+    grow x m = mark_keep b.rows g.room row x m
 
     others : (x : ℕ) → ¬ (x ≡ row) → Marked t.rows x → Marked b.rows x
-    others x n m = sym (row_other b.rows g.room row x n) ∙ m
+    others x n m = sym (mark_other b.rows g.room row x n) ∙ m
 
     same_b : t.fresh ≡ false → (k : ℕ) → opens file t.rows t.keys k ≡ opens file b.rows b.keys k
-    same_b e k = mark_same b.rows b.keys rs ks g.room row k (or_false_right b.fresh _ e)
+    same_b e k = opens_same b.rows b.keys rs ks g.room row k (or_false_right b.fresh _ e)
 
     same_t : t.fresh ≡ false → (k : ℕ) → k < rows_of file → opens file t.rows t.keys k ≡ opens file rs ks k
     same_t e k l = same_b e k ∙ g.same (or_false b.fresh _ e) k l
@@ -267,7 +267,7 @@ module _ (file : List ℕ) (P : Promised file) where
           same = same_t;
           closed = same_closed;
           steady = steady_closed;
-          new = λ e. (row, few, unmarked, row_same b.rows g.room row few);
+          new = λ e. (row, few, unmarked, mark_same b.rows g.room row few);
         }
 
   -- learning a row, as far as a depth goes
@@ -309,7 +309,7 @@ module _ (file : List ℕ) (P : Promised file) where
     with_grew rs ks r k u =
         let b = both_grew rs ks (sides_at rs ks row) r k in (
           grew_mark rs ks row in_file u (both_sides go rs ks row (sides_at rs ks row)) b.0 b.1 b.2,
-          row_same (both_sides go rs ks row (sides_at rs ks row)).rows b.0.room row (omega (arith, P.few_rows)),
+          mark_same (both_sides go rs ks row (sides_at rs ks row)).rows b.0.room row (omega (arith, P.few_rows)),
         )
 
   learn_cases : (d : ℕ) → Learns d → (rs ks : List ℕ) (row : ℕ) → length rs ≡ row_limit → length ks ≡ key_room → row < rows_of file → row ≤ d →

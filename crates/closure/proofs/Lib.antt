@@ -1,4 +1,3 @@
-pub mod Fields
 pub mod Depth
 pub mod Folds
 pub mod Marks

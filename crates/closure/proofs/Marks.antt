@@ -49,25 +49,10 @@ none_marked m i e =
     true≢false (sym (rw (get_or-replicate {A = ℕ} m i 0 0 (ltb-true i m h.0)) at h.1))
 
 -- public keys stand at 0 on
-pub public_marked : (ks : List ℕ) (a : ℕ) → key_marked ks (0 + a) ≡ key_marked ks a
-public_marked ks a = let e : 0 + a ≡ a = omega arith in rw e
-
 pub public_known : (ks : List ℕ) (a : ℕ) → know ks (0 + a) ≡ know ks a
 public_known ks a = let e : 0 + a ≡ a = omega arith in rw e
 
 module _ (rs : List ℕ) (room : length rs ≡ row_limit) where
-  pub marked_below : (x : ℕ) → Marked rs x → x < row_limit
-  marked_below = mark_below row_limit rs room
-
-  pub row_same : (r : ℕ) → r < row_limit → Marked (set rs r 1) r
-  row_same = set_same row_limit rs room
-
-  pub row_other : (r x : ℕ) → ¬ (x ≡ r) → row_marked (set rs r 1) x ≡ row_marked rs x
-  row_other = set_other row_limit rs room
-
-  pub row_keep : (r x : ℕ) → Marked rs x → Marked (set rs r 1) x
-  row_keep = set_keep row_limit rs room
-
   pub mark_same : (r : ℕ) → r < row_limit → Marked (mark_row rs r) r
   mark_same = set_same row_limit rs room
 

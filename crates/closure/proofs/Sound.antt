@@ -21,7 +21,7 @@ use Rattle.trace.specs.declared.Row.TheVariants.{Crypt}
 use Rattle.laws.proofs.First.{bool_cases}
 use Rattle.laws.proofs.Both.{both}
 use Rattle.closure.specs.Closure.{key_room, Sides, State, state_of, row_marked, know, know_row, opens_row, opens, sides_of, below, both_sides, learn_with, learn_row, is_crypt, reopens, reopen_row, up_rows, down_rows, pass_rows, settle, see_row}
-use Rattle.closure.proofs.Marks.{Marked, Known, row_other, know_other}
+use Rattle.closure.proofs.Marks.{Marked, Known, mark_other, know_other}
 use Rattle.closure.proofs.Grew.{sides_at, learns, below_grew, both_grew}
 use Rattle.closure.proofs.Passes.{reopen_grew, up_grew, pass_grew}
 
@@ -89,7 +89,7 @@ module _ (file : List ℕ) (P : Promised file) (H : paper.msg → Type 0) where
       (row : ℕ) (in_file : row < rows_of file) (a : Analz H (message file row)) where
     rows_set : (x : ℕ) → x < rows_of file → Marked (set rs row 1) x → Dec (x ≡ row) → Analz H (message file x)
     rows_set x l m (yes q) = rw q a
-    rows_set x l m (no n) = s.rows x l (sym (row_other rs room row x n) ∙ m)
+    rows_set x l m (no n) = s.rows x l (sym (mark_other rs room row x n) ∙ m)
 
     -- knowing one key
     pub_know : (i A : ℕ) → Analz H (paper.Key (paper.pub_k A)) → i ≡ A → (b : ℕ) → b < agent_limit → Known (know ks i) b → Dec (b ≡ i) →

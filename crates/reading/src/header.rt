@@ -29,11 +29,11 @@ pub fn wrong_set(file: &[u8]) -> bool
 pub fn wrong_contents(h: Header, len: usize) -> bool
     ensures { result ≡ wrong_contents h len }
 {
-    let events_at = ROWS_AT + ITEM * (h.rows as usize);
-    let end = events_at + ITEM * (h.events as usize);
+    let events_at = ROWS_AT + ITEM * usize::from(h.rows);
+    let end = events_at + ITEM * usize::from(h.events);
     (ROWS < h.rows)
         | (EVENTS < h.events)
-        | ((h.rows_at as usize) != ROWS_AT)
-        | ((h.events_at as usize) != events_at)
+        | (usize::from(h.rows_at) != ROWS_AT)
+        | (usize::from(h.events_at) != events_at)
         | (len != end)
 }

@@ -20,8 +20,7 @@ fn read_items(file: &[u8], rows: u16, events: u16) -> Result<(), Cause>
     if let Some(bad) = row_lines::first_bad_row(file, rows) {
         return Err(Cause::BadRow(RowNo(bad)));
     }
-    let repeated = repeats::first_repeated_row(file, rows);
-    if repeated < rows {
+    if let Some(repeated) = repeats::first_repeated_row(file, rows) {
         return Err(Cause::RepeatedRow(RowNo(repeated)));
     }
     if let Some(event) = event_lines::first_bad_event(file, rows, events) {

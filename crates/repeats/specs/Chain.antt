@@ -1,10 +1,11 @@
 -- The inside of the search for repeated rows: rows with one bucket are chained, and a link is one more than a row's number, or 0.
 -- No promise cites this file.
-use Rattle.std.specs.Prelude.{ℕ, ◌+◌, ◌-◌, ◌*◌, ◌%◌, ◌<◌, ◌≤◌, Bool, true, false, List, ◌≡◌, ltb, get_or}
+use Rattle.std.specs.Prelude.{ℕ, ◌+◌, ◌-◌, ◌*◌, ◌%◌, ◌<◌, ◌≤◌, List, ◌≡◌, ltb, get_or, length}
 use Rattle.trace.specs.File.{row_limit}
 use Rattle.laws.specs.Choose.{choose}
 use Rattle.trace.specs.Rows.{fields_at}
 use Rattle.trace.specs.declared.rows.Fields.{Fields}
+use Rattle.repeats.specs.declared.Chains.{Chains}
 
 abbrev pub buckets : ℕ
 buckets = 1024
@@ -29,9 +30,15 @@ pub data Reach (nexts : List ℕ) : ℕ → ℕ → Type 0 where
   here : {link s : ℕ} → link ≡ s + 1 → Reach nexts link s
   further : {link s : ℕ} → 0 < link → Reach nexts (get_or nexts (link - 1) 0) s → Reach nexts link s
 
-pub record Searched (file nexts : List ℕ) (head : ℕ) (f : Fields) (found : Bool) : Type 0 where
-  pub hit : found ≡ true → (s : ℕ) × (s < head) × (fields_at file s ≡ f)
-  pub missed : found ≡ false → (s : ℕ) → Reach nexts head s → fields_at file s ≡ f → ⊥
+-- the rows below r are chained by bucket, and have their tags
+pub record Chained (file : List ℕ) (c : Chains) (r : ℕ) : Type 0 where
+  pub heads_room : length c.heads ≡ buckets
+  pub nexts_room : length c.nexts ≡ row_limit
+  pub tags_room : length c.tags ≡ row_limit
+  pub down : Down c.nexts
+  pub low : (h : ℕ) → get_or c.heads h 0 ≤ r
+  pub linked : (s : ℕ) → s < r → Reach c.nexts (get_or c.heads (bucket_of (fields_at file s)) 0) s
+  pub tagged : Tagged file c.tags r
 
 -- of more rows than a file can have, the first count
 abbrev pub few_rows : ℕ → ℕ

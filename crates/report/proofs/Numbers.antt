@@ -1,6 +1,6 @@
 -- The decimal digits of a number: how the code finds them, and that they say the number.
 -- Assumes nothing.
-use Prim.Native.Nat.{ℕ, zero, suc, ◌+◌, ◌*◌, ◌-◌, ◌/◌, ◌%◌, ◌<◌, ◌≤◌}
+use Prim.Native.Nat.{ℕ, zero, suc, ◌+◌, ◌*◌, ◌-◌, ◌/◌, ◌%◌, ◌^◌, ◌<◌, ◌≤◌}
 use mathlib.Core.Bool.{Bool, true, false}
 use mathlib.Core.List.{List, [], ◌∷◌, ◌++◌}
 use mathlib.Core.Path.{◌≡◌, refl, sym, ap, ◌∙◌}
@@ -9,11 +9,10 @@ use native.Mathlib.Nat.{mod-eq_of_lt}
 use lib.Dec.{ltb}
 use lib.ListN.{get_or}
 use borrow.Author.Tests.{ltb-true, ltb-false, lt-ltb, le-ltb}
+use Rattle.std.specs.Fmt.{decimal}
+use Rattle.std.proofs.lemmas.Fmt.{decimal_by_steps}
 use Rattle.report.specs.Text.{digits_within, digits}
 use Rattle.report.specs.Promises.{read_from, DigitsOnly, none, also, AllDecimal}
-
-pub div_ten : (n : ℕ) → 10 ≤ n → n / 10 < n
-div_ten n h = omega arith
 
 one_within : (f n : ℕ) → n < 10 → digits_within (suc f) n ≡ (48 + n) ∷ []
 unfolding digits_within
@@ -39,6 +38,13 @@ digits_one n h = rw (mod-eq_of_lt h) (one_within n n h)
 
 pub digits_more : (n : ℕ) → 10 ≤ n → digits n ≡ digits (n / 10) ++ ((48 + n % 10) ∷ [])
 digits_more n h = rw (within (suc (n / 10)) n (n / 10) (omega arith) (omega arith)) (more_within n n h)
+
+-- what `itoa` writes
+pub digits_decimal : (n : ℕ) → n < 2 ^ 64 → decimal n ≡ digits n
+digits_decimal n h =
+    decimal_by_steps (λ k ds. ds ≡ digits k)
+    (λ k l. sym (digits_one k l ∙ ap (λ (d : ℕ). (48 + d) ∷ []) (mod-eq_of_lt l)))
+    (λ k ds l e. ap (λ (xs : List ℕ). xs ++ ((48 + k % 10) ∷ [])) e ∙ sym (digits_more k l)) n h
 
 -- by the last digit
 ten_steps : (P : ℕ → Type 0) → ((n : ℕ) → n < 10 → P n) → ((n : ℕ) → 10 ≤ n → P (n / 10) → P n) → (f n : ℕ) → n < f → P n

@@ -1,15 +1,13 @@
 -- Bytes put one after the other: two runs are one run of both, and a run that has room stands where it was put.
 -- Assumes nothing.
 use Prim.Native.Nat.{ℕ, suc, ◌+◌, ◌<◌, ◌≤◌}
-use mathlib.Core.Bool.{Bool, true, false}
 use mathlib.Core.List.{List, [], ◌∷◌, ◌++◌}
 use mathlib.Core.Path.{◌≡◌, refl, sym, ap, ◌∙◌}
 use native.Mathlib.Omega.{arith}
 use native.Mathlib.Numerals.{add-one}
 use lib.ListN.{length, set, drop, take, get_or, length-set}
 use lib.Seq.{sets, sets-eq, take-suc, take-length}
-use lib.Dec.{ltb}
-use borrow.Author.Tests.{lt-ltb, le-ltb, ltb-true, ltb-false}
+use borrow.Author.Tests.{lt-ltb, le-ltb}
 use Rattle.report.specs.Page.{Page, page_at, put_byte, puts, Put}
 
 puts_append : (p : Page) (xs ys : List ℕ) → puts p (xs ++ ys) ≡ puts (puts p xs) ys
@@ -48,21 +46,6 @@ module _ {a : List ℕ} {i : ℕ} where
 
   pub put_whole : {b : List ℕ} {j : ℕ} (word : List ℕ) (n : ℕ) → n ≡ length word → Put a i (take n word) b j → Put a i word b j
   put_whole word n e p = rw (e, take-length word) at p
-
-byte_length : (p : Page) (b : ℕ) → length (put_byte p b).bytes ≡ length p.bytes
-byte_length p b = go (ltb p.at (length p.bytes)) refl
-  where
-    go : (t : Bool) → ltb p.at (length p.bytes) ≡ t → length (put_byte p b).bytes ≡ length p.bytes
-    go true e = rw (byte_room p.bytes p.at b (ltb-true _ _ e)) (length-set p.bytes p.at b)
-    go false e = rw (byte_full p.bytes p.at b (ltb-false _ _ e)) refl
-
-puts_length : (bs : List ℕ) (p : Page) → length (puts p bs).bytes ≡ length p.bytes
-unfolding puts
-puts_length [] p = refl
-puts_length (b ∷ bs) p = puts_length bs (put_byte p b) ∙ byte_length p b
-
-pub put_length : {a xs b : List ℕ} {i j : ℕ} → Put a i xs b j → length b ≡ length a
-put_length {a} {xs} {b} {i} {j} p = ap (λ (r : Page). length r.bytes) p.is ∙ puts_length xs (page_at a i)
 
 -- a run that has room
 run : (bs l : List ℕ) (i : ℕ) → i + length bs ≤ length l → puts (page_at l i) bs ≡ page_at (sets l i bs) (i + length bs)

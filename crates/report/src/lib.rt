@@ -1,11 +1,11 @@
 // The text that the bench's small program prints: a line for each event of the accepted beginning, then the verdict.
 #![tactic(auto)]
 
-ghost use Rattle.std.specs.Prelude.{◌≡◌, ◌∷◌, [], ◌+◌, ◌%◌, get_or};
-ghost use Rattle.report.specs.Page.{Put};
-ghost use Rattle.report.specs.Text.{digits, event_line, event_lines, last_line, text_of, Reported};
-ghost use Rattle.judge.specs.declared.reply.Verdict.TheVariants.{Refused, Illegal, Accepted};
+ghost use Rattle.std.specs.Prelude.{◌≡◌, ◌∷◌, [], ◌++◌};
+ghost use Rattle.judge.specs.Judged.{verdict_length};
+ghost use Rattle.report.specs.Text.{digits, newline, event_line, event_lines, last_line, text_of, Reported};
 
+use itoa::Buffer;
 use judge::reply::Verdict;
 use trace::Cause;
 use trace::limits::EVENT_LIMIT;
@@ -17,117 +17,104 @@ const SPACE: u8 = b' ';
 
 const NEWLINE: u8 = b'\n';
 
-// Past the end nothing is written.
-fn put(out: &mut [u8], at: usize, byte: u8) -> usize
-    ensures { Put out.old at (byte ∷ []) out.new result }
+// How many events the verdict accepts.
+fn accepted(verdict: Result<Verdict, Cause>) -> u16
+    ensures { result ≡ verdict_length verdict }
 {
-    if at < out.len() {
-        out[at] = byte;
-        return at + 1;
+    match verdict {
+        Err(_) => 0,
+        Ok(Verdict::Illegal(n) | Verdict::Accepted(n)) => n,
     }
-    at
 }
 
-fn put_word(out: &mut [u8], at: usize, word: &[u8]) -> usize
-    ensures { Put out.old at word.now out.new result }
-{
-    let mut next = at;
-    let mut i: usize = 0;
-    while i < word.len() {
-        next = put(out, next, word[i]);
-        i += 1;
-    }
-    next
+// Where the text is written, and where its next byte goes.
+#[derive(Drop)]
+struct Page<'a> {
+    out: &'a mut [u8],
+    at: usize,
 }
 
-// The last digit of n.
-fn digit(n: u16) -> u8
-    ensures { result ≡ 48 + n % 10 }
-{
-    48 + (n % 10) as u8
-}
+impl Page<'_> {
+    ghost use Rattle.report.specs.Written.{Writes};
 
-fn put_digits(out: &mut [u8], at: usize, n: u16) -> usize
-    ensures { Put out.old at (digits n) out.new result }
-{
-    if n < 10 {
-        return put(out, at, digit(n));
-    }
-    let next = put_digits(out, at, n / 10);
-    put(out, next, digit(n))
-}
-
-// The line of event e.
-fn put_event(out: &mut [u8], at: usize, e: u16, rule: u8) -> usize
-    ensures { Put out.old at (event_line e rule) out.new result }
-{
-    let number = put_digits(out, at, e);
-    let space = put(out, number, SPACE);
-    let line = put_digits(out, space, rule as u16);
-    put(out, line, NEWLINE)
-}
-
-fn rule_of(rules: &[u8], e: u16) -> u8
-    ensures { result ≡ get_or rules.now e 0 }
-{
-    let at = e as usize;
-    if at < rules.len() { rules[at] } else { 0 }
-}
-
-// The lines of the first n events.
-fn put_events(out: &mut [u8], rules: &[u8], n: u16) -> usize
-    ensures { Put out.old 0 (event_lines rules.now n) out.new result }
-{
-    let mut next: usize = 0;
-    let mut e: u16 = 0;
-    while e < n {
-        let rule = rule_of(rules, e);
-        next = put_event(out, next, e, rule);
-        e += 1;
-    }
-    next
-}
-
-fn put_refused(out: &mut [u8], at: usize, cause: Cause) -> usize
-    ensures { Put out.old at (last_line (Refused cause)) out.new result }
-{
-    let word = put_word(out, at, b"refused ");
-    let number = put_digits(out, word, trace::number(cause));
-    let space = put(out, number, SPACE);
-    let line = put_digits(out, space, trace::place(cause));
-    put(out, line, NEWLINE)
-}
-
-fn put_illegal(out: &mut [u8], at: usize, n: u16) -> usize
-    ensures { Put out.old at (last_line (Illegal n)) out.new result }
-{
-    let word = put_word(out, at, b"illegal ");
-    let line = put_digits(out, word, n);
-    put(out, line, NEWLINE)
-}
-
-fn put_accepted(out: &mut [u8], at: usize, n: u16) -> usize
-    ensures { Put out.old at (last_line (Accepted n)) out.new result }
-{
-    let word = put_word(out, at, b"accepted ");
-    let line = put_digits(out, word, n);
-    put(out, line, NEWLINE)
-}
-
-// The text of a verdict; where the buffer ends it is cut.
-fn text(v: Verdict, rules: &[u8], out: &mut [u8]) -> usize
-    ensures { Put out.old 0 (text_of v rules.now) out.new result }
-{
-    match v {
-        Verdict::Refused(cause) => put_refused(out, 0, cause),
-        Verdict::Illegal(n) => {
-            let next = put_events(out, rules, n);
-            put_illegal(out, next, n)
+    // Past the end nothing is written.
+    #[tactic(auto, using(crate::proofs::Pages::put_room, crate::proofs::Pages::put_full))]
+    fn byte(&mut self, byte: u8)
+        ensures { Writes self.old (byte ∷ []) self.new }
+    {
+        if self.at < self.out.len() {
+            self.out[self.at] = byte;
+            self.at += 1;
         }
-        Verdict::Accepted(n) => {
-            let next = put_events(out, rules, n);
-            put_accepted(out, next, n)
+    }
+
+    #[tactic(auto, using(crate::proofs::Pages::put_none, crate::proofs::Pages::put_whole))]
+    fn word(&mut self, word: &[u8])
+        ensures { Writes self.old word.now self.new }
+    {
+        for &b in word {
+            self.byte(b);
         }
+    }
+
+    #[tactic(auto, using(crate::proofs::Numbers::digits_decimal))]
+    fn number(&mut self, n: u16)
+        ensures { Writes self.old (digits n) self.new }
+    {
+        self.word(Buffer::new().format(n).as_bytes());
+    }
+
+    // The line of event e.
+    fn event(&mut self, e: u16, rule: u8)
+        ensures { Writes self.old (event_line e rule) self.new }
+    {
+        self.number(e);
+        self.byte(SPACE);
+        self.number(u16::from(rule));
+        self.byte(NEWLINE);
+    }
+
+    // The lines of the first n events.
+    #[tactic(auto, using(crate::proofs::Lines::put_no_events))]
+    fn events(&mut self, rules: &[u8], n: u16)
+        ensures { Writes self.old (event_lines rules.now n) self.new }
+    {
+        for e in 0..n {
+            let rule = rules.get(usize::from(e)).copied().unwrap_or(0);
+            self.event(e, rule);
+        }
+    }
+
+    fn line(&mut self, word: &[u8], n: u16)
+        ensures { Writes self.old (word.now ++ (digits n ++ newline)) self.new }
+    {
+        self.word(word);
+        self.number(n);
+        self.byte(NEWLINE);
+    }
+
+    fn last_line(&mut self, verdict: Result<Verdict, Cause>)
+        ensures { Writes self.old (last_line verdict) self.new }
+    {
+        match verdict {
+            Err(cause) => {
+                self.word(b"refused ");
+                self.number(trace::number(cause));
+                self.byte(SPACE);
+                self.number(trace::place(cause));
+                self.byte(NEWLINE);
+            }
+            Ok(Verdict::Illegal(n)) => self.line(b"illegal ", n),
+            Ok(Verdict::Accepted(n)) => self.line(b"accepted ", n),
+        }
+    }
+
+    // The text of a verdict; where the buffer ends it is cut.
+    fn text(&mut self, verdict: Result<Verdict, Cause>, rules: &[u8])
+        ensures { Writes self.old (text_of verdict rules.now) self.new }
+    {
+        self.events(rules, accepted(verdict));
+        self.last_line(verdict);
     }
 }
 
@@ -136,6 +123,8 @@ pub fn report(file: &[u8], out: &mut [u8; TEXT_ROOM]) -> usize
     ensures { Reported file.now out.old result out.new }
 {
     let mut rules = [0u8; EVENT_LIMIT];
-    let v = judge::verdict(file, &mut rules);
-    text(v, &rules, out)
+    let verdict = judge::verdict(file, &mut rules);
+    let mut page = Page { out, at: 0 };
+    page.text(verdict, &rules);
+    page.at
 }

@@ -1,20 +1,18 @@
 -- What can be made only grows with what is known, and what is known only grows with what is seen, in any file.
 -- Assumes nothing.
-use Prim.Native.Nat.{ℕ, zero, suc, ◌<◌}
+use Prim.Native.Nat.{ℕ, zero, suc}
 use mathlib.Core.Bool.{Bool, true, false, ◌||◌, true≢false}
 use mathlib.Core.List.{List}
-use mathlib.Core.Path.{◌≡◌, refl, sym, ◌∙◌}
+use mathlib.Core.Path.{◌≡◌, refl, sym}
 use native.Mathlib.Omega.{arith}
-use native.Mathlib.Decide.{ℕ_discrete, dec_lt}
 use lib.Dec.{ltb, leb}
 use lib.ListN.{set}
 use Rattle.std.proofs.lemmas.Grind.{common_steps}
 use Rattle.std.proofs.lemmas.Bool.Decides.{nat_tests}
 use Rattle.trace.specs.File.{row_limit, rows_of, compromised_in}
-use Rattle.laws.specs.Choose.{choose}
 use Rattle.trace.specs.Kinds.{row_at}
 use Rattle.trace.specs.declared.Row.{Row}
-use Rattle.trace.specs.declared.Row.TheVariants.{Agent, Number, Nonce, Prf, PublicKey, PrivateKey, SessionKey, Hash, Crypt, Pair}
+use Rattle.trace.specs.declared.Row.TheVariants.{Agent, Number, Hash, Crypt, Pair}
 use Rattle.trace.specs.declared.Event.{Event}
 use Rattle.trace.specs.declared.Event.TheVariants.{Says, Notes}
 use Rattle.laws.proofs.Both.{both}
@@ -105,11 +103,6 @@ module _ (file known known' : List ℕ) (kept : Kept known known') where
     makes_more : (R : Row) → makes known ms R ≡ true → makes known' ms' R ≡ true
     makes_more (Agent a) e = refl
     makes_more (Number n) e = refl
-    makes_more (Nonce n) e = absurd (true≢false (sym e))
-    makes_more (Prf s x y) e = absurd (true≢false (sym e))
-    makes_more (PublicKey a) e = absurd (true≢false (sym e))
-    makes_more (PrivateKey a) e = absurd (true≢false (sym e))
-    makes_more (SessionKey o x y z) e = absurd (true≢false (sym e))
     makes_more (Hash x) e = more x.0 e
     makes_more (Crypt k x) e =
         let b = both (row_marked known k.0) (made ms x.0) e in
@@ -117,28 +110,23 @@ module _ (file known known' : List ℕ) (kept : Kept known known') where
     makes_more (Pair x y) e =
         let b = both (made ms x.0) (made ms y.0) e in
         both_true (more x.0 b.0) (more y.0 b.1)
-
-  either : (a b a' b' : Bool) → (a ≡ true → a' ≡ true) → (b ≡ true → b' ≡ true) → choose a true b ≡ true → choose a' true b' ≡ true
-  either true b a' b' f g e = rw (f refl) refl
-  either false b true b' f g e = refl
-  either false b false b' f g e = g e
+    makes_more _ e = absurd (true≢false (sym e))
 
   swept_more : (n x : ℕ) → made (swept file known n) x ≡ true → made (swept file known' n) x ≡ true
   unfolding write_marks
   swept_more zero x e = e
-  swept_more (suc n) x e = go (ℕ_discrete x n) (dec_lt n row_limit) (swept_more n)
-    where
-      go : Dec (x ≡ n) → Dec (n < row_limit) → ((y : ℕ) → made (swept file known n) y ≡ true → made (swept file known' n) y ≡ true) →
-          made (swept file known' (suc n)) x ≡ true
-      go (no d) _ ih = swept_other file known' n x d ∙ ih x (sym (swept_other file known n x d) ∙ e)
-      go (yes q) (no l) ih = absurd (true≢false (sym e ∙ far_not_made file known (suc n) x (omega arith)))
-      go (yes q) (yes l) ih =
-          let here : made (swept file known (suc n)) n ≡ true = rw q at e in
-          rw q
-          (swept_here file known' n l ∙
-          either (row_marked known n) (makes known (swept file known n) (row_at file n)) (row_marked known' n)
-          (makes known' (swept file known' n) (row_at file n)) (kept n)
-          (makes_more (swept file known n) (swept file known' n) ih (row_at file n)) (sym (swept_here file known n l) ∙ here))
+  swept_more (suc n) x e =
+      grind (
+        arith,
+        swept_other file known n x,
+        swept_other file known' n x,
+        far_not_made file known (suc n) x,
+        swept_here file known n,
+        swept_here file known' n,
+        makes_more (swept file known n) (swept file known' n) (swept_more n) (row_at file n),
+        swept_more n x,
+        kept n,
+      )
 
   pub can_more : (x : ℕ) → can_make file known x ≡ true → can_make file known' x ≡ true
   can_more x = swept_more (suc x) x

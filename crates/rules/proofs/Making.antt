@@ -17,7 +17,7 @@ use Rattle.trace.specs.File.{row_limit}
 use Rattle.laws.specs.Choose.{choose}
 use Rattle.trace.specs.Kinds.{row_at}
 use Rattle.trace.specs.declared.Row.{Row}
-use Rattle.trace.specs.declared.Row.TheVariants.{Agent, Number, Nonce, Prf, PublicKey, PrivateKey, SessionKey, Hash, Crypt, Pair}
+use Rattle.trace.specs.declared.Row.TheVariants.{Hash, Crypt, Pair}
 use Rattle.laws.proofs.Both.{both}
 use Rattle.closure.specs.Closure.{row_marked, zeros}
 use Rattle.spy.specs.Made.{made, makes, mark_of, write_marks}
@@ -89,16 +89,10 @@ module _ (file known : List ℕ) where
   crypt_is row x false = refl
 
   parts_is : (row : ℕ) (R : Row) → makes known (swept row) R ≡ can_of row (parts_of known R)
-  parts_is row (Agent a) = refl
-  parts_is row (Number n) = refl
-  parts_is row (Nonce n) = refl
-  parts_is row (Prf s x y) = refl
-  parts_is row (PublicKey a) = refl
-  parts_is row (PrivateKey a) = refl
-  parts_is row (SessionKey o x y z) = refl
   parts_is row (Hash x) = below_is row x.0 ∙ sym (and_self (can_below row x.0))
   parts_is row (Crypt k x) = crypt_is row x.0 (row_marked known k.0)
   parts_is row (Pair x y) = rw (below_is row x.0, below_is row y.0) refl
+  parts_is row _ = refl
 
   pub parts_made : (row : ℕ) → row < row_limit → row_marked known row ≡ false → can_make file known row ≡ can_of row (parts_of known (row_at file row))
   parts_made row l u = swept_here row l ∙ rw u (parts_is row (row_at file row))

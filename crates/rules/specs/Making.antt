@@ -5,7 +5,7 @@ use Rattle.trace.specs.File.{row_limit}
 use Rattle.laws.specs.Choose.{choose}
 use Rattle.trace.specs.Kinds.{row_at}
 use Rattle.trace.specs.declared.Row.{Row}
-use Rattle.trace.specs.declared.Row.TheVariants.{Agent, Number, Nonce, Prf, PublicKey, PrivateKey, SessionKey, Hash, Crypt, Pair}
+use Rattle.trace.specs.declared.Row.TheVariants.{Agent, Number, Hash, Crypt, Pair}
 use Rattle.closure.specs.Closure.{row_marked}
 use Rattle.earlier.specs.Heard.{Heard}
 use Rattle.rules.specs.declared.synth.Parts.{Parts}
@@ -24,14 +24,10 @@ told marks is = record { marks = marks; is = is }
 abbrev pub parts_of : (known : List ℕ) → Row → Parts
 parts_of known (Agent a) = Leaf true
 parts_of known (Number n) = Leaf true
-parts_of known (Nonce n) = Leaf false
-parts_of known (Prf s x y) = Leaf false
-parts_of known (PublicKey a) = Leaf false
-parts_of known (PrivateKey a) = Leaf false
-parts_of known (SessionKey o x y z) = Leaf false
 parts_of known (Hash x) = Two x.0 x.0
 parts_of known (Crypt k x) = choose (row_marked known k.0) (Two x.0 x.0) (Leaf false)
 parts_of known (Pair x y) = Two x.0 y.0
+parts_of known _ = Leaf false
 
 -- a side that is not below the row is not made
 abbrev pub made_below : (List ℕ → ℕ → Made) → (marks : List ℕ) → (row x : ℕ) → Made

@@ -1,35 +1,23 @@
 // The longest chains that a file holds: pairs of pairs, ciphertexts of ciphertexts, and keys that open the next key.
+ghost use Rattle.std.specs.Prelude.{◌<◌};
+
 use super::files;
+use super::files::Kind;
 use trace::limits::ROWS;
 
-// Kinds of rows.
-pub const NUMBER: usize = 1;
-
-pub const NONCE: usize = 2;
-
-const PUBLIC_KEY: usize = 4;
-
-const SESSION_KEY: usize = 6;
-
-const CRYPT: usize = 8;
-
-const PAIR: usize = 9;
-
 // The Spy alone; and with agent 3.
-const SPY: usize = 1;
+const SPY: u8 = 1;
 
-const SPY_AND_3: usize = 9;
+const SPY_AND_3: u8 = 9;
 
 const TOP: u16 = ROWS - 1;
 
 // Row 0, then each row the pair of the row below with itself; the top is said.
-pub fn pairs(file: &mut [u8], bottom: usize) {
+pub fn pairs(file: &mut [u8], bottom: Kind) {
     files::put_header(file, SPY, ROWS, 1);
     files::put_row(file, 0, bottom, 10, 0, 0);
-    let mut r: u16 = 1;
-    while r < ROWS {
-        files::put_row(file, r, PAIR, r - 1, r - 1, 0);
-        r += 1;
+    for r in 1..ROWS {
+        files::put_row(file, r, Kind::Pair, r - 1, r - 1, 0);
     }
     files::put_says(file, ROWS, 0, TOP);
 }
@@ -40,29 +28,27 @@ fn nested_key(r: u16) -> u16 {
 }
 
 // Rows 0 to 3 are two keys, the session key's nonce and the bottom; the others encrypt the row below.
-fn nested(file: &mut [u8], bottom: usize, events: u16) {
+fn nested(file: &mut [u8], bottom: Kind, events: u16) {
     files::put_header(file, SPY_AND_3, ROWS, events);
-    files::put_row(file, 0, PUBLIC_KEY, 3, 0, 0);
-    files::put_row(file, 1, NONCE, 10, 0, 0);
-    files::put_row(file, 2, SESSION_KEY, 1, 1, 1);
+    files::put_row(file, 0, Kind::PublicKey, 3, 0, 0);
+    files::put_row(file, 1, Kind::Nonce, 10, 0, 0);
+    files::put_row(file, 2, Kind::SessionKey, 1, 1, 1);
     files::put_row(file, 3, bottom, 11, 0, 0);
-    let mut r: u16 = 4;
-    while r < ROWS {
-        files::put_row(file, r, CRYPT, nested_key(r), r - 1, 0);
-        r += 1;
+    for r in 4..ROWS {
+        files::put_row(file, r, Kind::Crypt, nested_key(r), r - 1, 0);
     }
 }
 
 // The outermost ciphertext is said, then the session key: what the key opens was there before it.
 pub fn opened(file: &mut [u8]) {
-    nested(file, NONCE, 2);
+    nested(file, Kind::Nonce, 2);
     files::put_says(file, ROWS, 0, TOP);
     files::put_says(file, ROWS, 1, 2);
 }
 
 // Both keys are said, which makes every ciphertext of a Number; then the outermost is said.
 pub fn made(file: &mut [u8]) {
-    nested(file, NUMBER, 3);
+    nested(file, Kind::Number, 3);
     files::put_says(file, ROWS, 0, 0);
     files::put_says(file, ROWS, 1, 2);
     files::put_says(file, ROWS, 2, TOP);
@@ -80,34 +66,34 @@ pub const LINKS: u16 = 507;
 pub const LINK_ROWS: u16 = 1023;
 
 fn nonces(file: &mut [u8]) {
-    let mut r: u16 = 0;
-    while r < FIRST_KEY {
-        files::put_row(file, r, NONCE, r, 0, 0);
-        r += 1;
+    for r in 0..FIRST_KEY {
+        files::put_row(file, r, Kind::Nonce, r, 0, 0);
     }
 }
 
 // The key in row r is over the nonces that r spells in base 8.
 fn session_keys(file: &mut [u8]) {
-    let mut r: u16 = FIRST_KEY;
-    while r < FIRST_LINK {
-        files::put_row(file, r, SESSION_KEY, r / 64 % 8, r / 8 % 8, r % 8);
-        r += 1;
+    for r in FIRST_KEY..FIRST_LINK {
+        files::put_row(file, r, Kind::SessionKey, r / 64 % 8, r / 8 % 8, r % 8);
     }
 }
 
 // The key of a link lies above the key inside if the chain falls, else below it.
-fn link_key(i: u16, above: bool) -> u16 {
-    let key = FIRST_KEY + i % LINKS;
+fn link_key(i: u16, above: bool) -> u16
+    requires { i < 507 }
+{
+    let key = FIRST_KEY + i;
     if above { key + 1 } else { key }
 }
 
-fn put_link(file: &mut [u8], i: u16, falling: bool) {
-    let r = FIRST_LINK + i % LINKS;
+fn put_link(file: &mut [u8], i: u16, falling: bool)
+    requires { i < 507 }
+{
+    let r = FIRST_LINK + i;
     files::put_row(
         file,
         r,
-        CRYPT,
+        Kind::Crypt,
         link_key(i, falling),
         link_key(i, !falling),
         0,
@@ -125,10 +111,8 @@ pub fn links(file: &mut [u8], falling: bool) {
     files::put_header(file, SPY, LINK_ROWS, LINKS + 1);
     nonces(file);
     session_keys(file);
-    let mut i: u16 = 0;
-    while i < LINKS {
+    for i in 0..LINKS {
         put_link(file, i, falling);
-        i += 1;
     }
     files::put_says(file, LINK_ROWS, LINKS, opening_key(falling));
 }

@@ -1,46 +1,57 @@
 // Writes the parts of a trace file into lent bytes; what lies past their end is left out.
-use trace::limits::{ITEM, LONGEST_FILE, ROWS_AT};
+ghost use Rattle.std.specs.Prelude.{◌≡◌, ◌+◌, ◌*◌, ◌≤◌};
 
-pub fn put(file: &mut [u8], at: usize, value: usize) {
-    if at < file.len() {
-        file[at] = (value % 256) as u8;
-    }
+use cases::put;
+use trace::limits::{ITEM, ROWS_AT};
+
+// The kinds of row that a chain is made of.
+#[derive(Clone, Copy)]
+pub enum Kind {
+    Number = 1,
+    Nonce = 2,
+    PublicKey = 4,
+    SessionKey = 6,
+    Crypt = 8,
+    Pair = 9,
 }
 
-fn put_word(file: &mut [u8], at: usize, value: usize) {
-    if at < LONGEST_FILE {
-        put(file, at, value);
-        put(file, at + 1, value / 256);
-    }
+fn put_word(file: &mut [u8], at: usize, value: u16) {
+    let [low, high] = value.to_le_bytes();
+    put(file, at, low);
+    put(file, at.saturating_add(1), high);
 }
 
-pub fn length_of(rows: u16, events: u16) -> usize {
-    ROWS_AT + ITEM * (rows as usize + events as usize)
+pub fn length_of(rows: u16, events: u16) -> usize
+    ensures { result ≡ 20 + 8 * (rows + events) }
+{
+    ROWS_AT + ITEM * (usize::from(rows) + usize::from(events))
 }
 
-pub fn put_header(file: &mut [u8], set: usize, rows: u16, events: u16) {
+pub fn put_header(file: &mut [u8], set: u8, rows: u16, events: u16)
+    requires { rows ≤ 1024 }
+{
     put_word(file, 0, 1);
     put(file, 4, set);
-    put_word(file, 12, ROWS_AT);
-    put_word(file, 14, rows as usize);
-    put_word(file, 16, ROWS_AT + ITEM * (rows as usize));
-    put_word(file, 18, events as usize);
+    put_word(file, 12, ROWS_AT as u16);
+    put_word(file, 14, rows);
+    put_word(file, 16, length_of(rows, 0) as u16);
+    put_word(file, 18, events);
 }
 
 // A row with role 0.
-pub fn put_row(file: &mut [u8], r: u16, kind: usize, x: u16, y: u16, z: u16) {
-    let at = ROWS_AT + ITEM * (r as usize);
-    put(file, at, kind);
-    put_word(file, at + 2, x as usize);
-    put_word(file, at + 4, y as usize);
-    put_word(file, at + 6, z as usize);
+pub fn put_row(file: &mut [u8], r: u16, kind: Kind, x: u16, y: u16, z: u16) {
+    let at = length_of(r, 0);
+    put(file, at, kind as u8);
+    put_word(file, at + 2, x);
+    put_word(file, at + 4, y);
+    put_word(file, at + 6, z);
 }
 
 // Agent 2 says a row to 3.
 pub fn put_says(file: &mut [u8], rows: u16, e: u16, row: u16) {
-    let at = ROWS_AT + ITEM * (rows as usize + e as usize);
+    let at = length_of(rows, e);
     put(file, at, 0);
     put(file, at + 1, 2);
     put(file, at + 2, 3);
-    put_word(file, at + 4, row as usize);
+    put_word(file, at + 4, row);
 }

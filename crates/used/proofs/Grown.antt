@@ -17,7 +17,7 @@ use Rattle.trace.specs.declared.Row.{Row}
 use Rattle.trace.specs.declared.Row.TheVariants.{Agent, Number, Nonce, Prf, PublicKey, PrivateKey, SessionKey, Hash, Crypt, Pair}
 use Rattle.laws.proofs.First.{bool_cases}
 use Rattle.closure.specs.Closure.{row_marked}
-use Rattle.closure.proofs.Marks.{Marked, row_same, row_other, row_keep}
+use Rattle.closure.proofs.Marks.{Marked, mark_same, mark_other, mark_keep}
 use Rattle.used.specs.Marking.{used_below, use_parts, use_row}
 
 -- what row x goes into, where it is below it, has H
@@ -74,10 +74,10 @@ module _ (file : List ℕ) (n : ℕ) (few : n ≤ row_limit) (H : ℕ → Type 0
   -- a row is marked, after both its sides
   module _ (ms : List ℕ) (row : ℕ) (in_file : row < n) (has : H row) (b : List ℕ) (g : Grew ms b) (sides : Sides (Marked b) row (row_at file row)) where
     grow : (x : ℕ) → Marked b x → Marked (set b row 1) x
-    grow x m = row_keep b g.room row x m
+    grow x m = mark_keep b g.room row x m
 
     others : (x : ℕ) → ¬ (x ≡ row) → Marked (set b row 1) x → Marked b x
-    others x d m = sym (row_other b g.room row x d) ∙ m
+    others x d m = sym (mark_other b g.room row x d) ∙ m
 
     sides_grow : (x : ℕ) → Sides (Marked b) x (row_at file x) → Sides (Marked (set b row 1)) x (row_at file x)
     sides_grow x s = sides_map (Marked b) (Marked (set b row 1)) grow x (row_at file x) s
@@ -142,7 +142,7 @@ module _ (file : List ℕ) (n : ℕ) (few : n ≤ row_limit) (H : ℕ → Type 0
     with_grew ms r has =
         let b = use_parts go ms row (row_at file row) in
         let g = parts_grew ms (row_at file row) r (parts row in_file has) in
-        (grew_mark ms row in_file has b g.0 g.1, row_same b g.0.room row (omega arith))
+        (grew_mark ms row in_file has b g.0 g.1, mark_same b g.0.room row (omega arith))
 
   use_cases : (d : ℕ) → Uses d → (ms : List ℕ) (row : ℕ) → length ms ≡ row_limit → row < n → H row → row ≤ d →
       (row_marked ms row ≡ true) ⊎ (row_marked ms row ≡ false) →

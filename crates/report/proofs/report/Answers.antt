@@ -10,4 +10,4 @@ pub returns : goal.returns
 returns c =
     let a = c.args in
     let g : length a.out.now ≡ 4096 = search rules in
-    reported a.file.now a.out.now _ c.text.result _ _ g c.verdict-v.ensures c.text.ensures
+    reported a.file.now a.out.now _ _ _ _ g c.verdict-verdict.ensures c.text.ensures.put
