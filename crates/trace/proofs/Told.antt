@@ -242,7 +242,7 @@ told_readable file (refused w n) (readable m) = m _ w
 
 abbrev cause_in : Result ⊤ Cause → Cause
 cause_in (Err c) = c
-cause_in (Ok tt) = TooShort
+cause_in (Ok _) = TooShort
 
 pub same_cause : (file : List ℕ) {c d : Cause} → Told file (Err c) → Told file (Err d) → c ≡ d
 same_cause file t u = ap cause_in (refusals.one file _ _ t u)
