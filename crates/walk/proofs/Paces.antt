@@ -5,15 +5,14 @@ use mathlib.Core.Bool.{Bool, true, false, ◌&&◌}
 use mathlib.Core.List.{List}
 use mathlib.Core.Path.{◌≡◌, refl, sym, ◌∙◌, ap}
 use native.Mathlib.Omega.{arith}
-use native.Mathlib.Numerals.{add-one}
 use native.Mathlib.Decide.{dec_lt}
 use Rattle.std.specs.Prelude.{Some, None}
 use lib.Dec.{ltb}
-use lib.ListN.{length, set, length-set}
+use lib.ListN.{set}
 use borrow.Author.Tests.{lt-ltb, le-ltb, ltb-true}
 use Rattle.laws.specs.Choose.{choose}
 use Rattle.walk.specs.Lowest.{or_none, rule_of, exchange_of}
-use Rattle.walk.specs.Walk.{Walked, walked_to, walk, walkable, walk_file, cleared}
+use Rattle.walk.specs.Walk.{Walked, walked_to, walk, walkable, walk_file}
 use Rattle.walk.specs.Pace.{pace, paced}
 
 module _ (rule : ℕ → ℕ) (exchange : ℕ → Bool) (N : ℕ) where
@@ -105,15 +104,6 @@ module _ (rule : ℕ → ℕ) (exchange : ℕ → Bool) (N : ℕ) where
     omega arith,
     rw (p, b) (e ∙ walk_by d i bytes l ∙ by_go d i bytes (ltb 0 (rule i)) (ltb (suc i) N && exchange i) (λ q. z (p ∙ q))),
   )
-
--- one byte more is cleared
-pub cleared_none : (bytes : List ℕ) → bytes ≡ cleared 0 bytes
-unfolding cleared
-cleared_none bytes = refl
-
-pub cleared_more : (i : ℕ) (bytes bs bs' : List ℕ) → bs ≡ cleared i bytes → bs' ≡ set bs i 0 → bs' ≡ cleared (i + 1) bytes
-unfolding cleared
-cleared_more i bytes bs bs' e q = rw (add-one, ← e) q
 
 -- the step's number, and that there is one
 pub taken_some : (n k : ℕ) → or_none n ≡ Some k → (k ≡ n) × (0 < n)

@@ -91,6 +91,7 @@ impl State {
         }
     }
 
+    #[tactic(auto, using(crate::proofs::States::said_is, crate::proofs::States::noted_is))]
     pub fn lowest_rule(&mut self, file: &[u8], e: u16) -> Option<u8>
         requires { Before file.now e self.old }
         ensures value { result ≡ or_none (rule_of file.now e) }

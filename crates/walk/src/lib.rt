@@ -50,6 +50,7 @@ impl State {
     }
 
     // Whether rule 6 puts event e and the next one on those before.
+    #[tactic(auto, using(crate::proofs::States::exchange_is))]
     fn exchanges(&self, file: &[u8], e: u16) -> bool
         requires before { Before file.now e self.now }
         requires in_range { e < event_limit }
