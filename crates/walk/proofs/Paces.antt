@@ -5,16 +5,15 @@ use mathlib.Core.Bool.{Bool, true, false, ◌&&◌}
 use mathlib.Core.List.{List}
 use mathlib.Core.Path.{◌≡◌, refl, sym, ◌∙◌, ap}
 use native.Mathlib.Omega.{arith}
-use native.Mathlib.Numerals.{add-one}
 use native.Mathlib.Decide.{dec_lt}
 use Rattle.std.specs.Prelude.{Some, None}
 use lib.Dec.{ltb}
-use lib.ListN.{length, set, length-set}
+use lib.ListN.{set}
 use borrow.Author.Tests.{lt-ltb, le-ltb, ltb-true}
 use Rattle.laws.specs.Choose.{choose}
-use Rattle.walk.specs.Lowest.{rule_of, exchange_of}
-use Rattle.walk.specs.Walk.{Walked, walked_to, walk, walkable, walk_file, cleared}
-use Rattle.walk.specs.Pace.{pace, paced, taken_or_none}
+use Rattle.walk.specs.Lowest.{or_none, rule_of, exchange_of}
+use Rattle.walk.specs.Walk.{Walked, walked_to, walk, walkable, walk_file}
+use Rattle.walk.specs.Pace.{pace, paced}
 
 module _ (rule : ℕ → ℕ) (exchange : ℕ → Bool) (N : ℕ) where
   -- at the end
@@ -59,12 +58,6 @@ module _ (rule : ℕ → ℕ) (exchange : ℕ → Bool) (N : ℕ) where
   by_same i bytes false true e = absurd (omega arith)
   by_same i bytes false false e = refl
 
-  by_length_lem : (i : ℕ) (bytes : List ℕ) (one two : Bool) →
-      length (choose one (set bytes i (rule i)) (choose two (set (set bytes i 6) (suc i) 6) bytes)) ≡ length bytes
-  by_length_lem i bytes true two = length-set bytes i (rule i)
-  by_length_lem i bytes false true = length-set (set bytes i 6) (suc i) 6 ∙ length-set bytes i 6
-  by_length_lem i bytes false false = refl
-
   by_within : (i : ℕ) (one two : Bool) → i < N → (two ≡ true → suc i < N) → i + choose {A = ℕ} one 1 (choose {A = ℕ} two 2 0) ≤ N
   by_within i true two l s = omega arith
   by_within i false true l s = let h = s refl in omega arith
@@ -76,9 +69,6 @@ module _ (rule : ℕ → ℕ) (exchange : ℕ → Bool) (N : ℕ) where
 
   pub paced_same : (i : ℕ) (bytes : List ℕ) → pace rule exchange N i ≡ 0 → paced rule exchange N i bytes ≡ bytes
   paced_same i bytes z = by_same i bytes (ltb 0 (rule i)) (ltb (suc i) N && exchange i) z
-
-  pub paced_length : (i : ℕ) (bytes : List ℕ) → length (paced rule exchange N i bytes) ≡ length bytes
-  paced_length i bytes = by_length_lem i bytes (ltb 0 (rule i)) (ltb (suc i) N && exchange i)
 
   -- it stays within the events
   pub pace_within : (i n : ℕ) → i < N → n ≡ pace rule exchange N i → i + n ≤ N
@@ -115,33 +105,18 @@ module _ (rule : ℕ → ℕ) (exchange : ℕ → Bool) (N : ℕ) where
     rw (p, b) (e ∙ walk_by d i bytes l ∙ by_go d i bytes (ltb 0 (rule i)) (ltb (suc i) N && exchange i) (λ q. z (p ∙ q))),
   )
 
--- the cleared buffer
-pub cleared_length : (n : ℕ) (bytes : List ℕ) → length (cleared n bytes) ≡ length bytes
-unfolding cleared
-cleared_length zero bytes = refl
-cleared_length (suc n) bytes = length-set (cleared n bytes) n 0 ∙ cleared_length n bytes
-
--- one byte more is cleared
-pub cleared_none : (bytes : List ℕ) → bytes ≡ cleared 0 bytes
-unfolding cleared
-cleared_none bytes = refl
-
-pub cleared_more : (i : ℕ) (bytes bs bs' : List ℕ) → bs ≡ cleared i bytes → bs' ≡ set bs i 0 → bs' ≡ cleared (i + 1) bytes
-unfolding cleared
-cleared_more i bytes bs bs' e q = rw (add-one, ← e) q
-
 -- the step's number, and that there is one
-pub taken_some : (n k : ℕ) → taken_or_none n ≡ Some k → (k ≡ n) × (0 < n)
+pub taken_some : (n k : ℕ) → or_none n ≡ Some k → (k ≡ n) × (0 < n)
 taken_some n k = go (dec_lt 0 n)
   where
-    go : Dec (0 < n) → taken_or_none n ≡ Some k → (k ≡ n) × (0 < n)
+    go : Dec (0 < n) → or_none n ≡ Some k → (k ≡ n) × (0 < n)
     go (yes l) e = let q : Some n ≡ Some k = rw (lt-ltb 0 n l) at e in (cc, l)
     go (no l) e = let q : None ≡ Some k = rw (le-ltb 0 n (omega arith)) at e in absurd cc
 
-pub taken_none : (n : ℕ) → taken_or_none n ≡ None → n ≡ 0
+pub taken_none : (n : ℕ) → or_none n ≡ None → n ≡ 0
 taken_none n = go (dec_lt 0 n)
   where
-    go : Dec (0 < n) → taken_or_none n ≡ None → n ≡ 0
+    go : Dec (0 < n) → or_none n ≡ None → n ≡ 0
     go (yes l) e = let q : Some n ≡ None = rw (lt-ltb 0 n l) at e in absurd cc
     go (no l) e = omega arith
 

@@ -27,7 +27,7 @@ use Rattle.rules.specs.Making.{told, try_fake, Kept}
 use Rattle.rules.proofs.Carried.{none_sound, tried}
 use Rattle.rules.proofs.Growing.{see_kept, can_more}
 use Rattle.walk.specs.declared.State.{State}
-use Rattle.walk.specs.Lowest.{rule_or_none, lowest_said, lowest_noted, lowest_rule, rule_of, exchange_of}
+use Rattle.walk.specs.Lowest.{or_none, lowest_said, lowest_noted, lowest_rule, rule_of, exchange_of}
 use Rattle.walk.specs.Pace.{Before}
 
 -- what an Option of a test tells of it
@@ -89,9 +89,9 @@ module _ (file : List ℕ) (i : ℕ) (s : State) (b : Before file i s) where
   by_says {e} q t = rw t at (rule_is q)
 
   pub said_is : {e : Event} {k : Option ℕ} → e ≡ event_at file i → (heard_in e).says ≡ true →
-      k ≡ rule_or_none (lowest_said file s.used s.known.rows (found file s.boxes) (heard_in e)) → k ≡ rule_or_none (rule_of file i)
-  said_is q t v = v ∙ ap rule_or_none (by_says q t)
+      k ≡ or_none (lowest_said file s.used s.known.rows (found file s.boxes) (heard_in e)) → k ≡ or_none (rule_of file i)
+  said_is q t v = v ∙ ap or_none (by_says q t)
 
   pub noted_is : {e : Event} {k : Option ℕ} → e ≡ event_at file i → (heard_in e).says ≡ false →
-      k ≡ rule_or_none (lowest_noted file s.known.rows (found file s.boxes) (both_in file s.boxes i) (heard_in e)) → k ≡ rule_or_none (rule_of file i)
-  noted_is q t v = v ∙ ap rule_or_none (by_says q t)
+      k ≡ or_none (lowest_noted file s.known.rows (found file s.boxes) (both_in file s.boxes i) (heard_in e)) → k ≡ or_none (rule_of file i)
+  noted_is q t v = v ∙ ap or_none (by_says q t)

@@ -15,8 +15,9 @@ use Rattle.accepts.specs.declared.Session.{Session}
 use Rattle.accepts.specs.declared.Side.{Side}
 use Rattle.accepts.specs.Tests.{both_finished, client_accepts, server_accepts}
 
-abbrev pub rule_or_none : ℕ → Option ℕ
-rule_or_none k = then_some (ltb 0 k) k
+-- 0 stands for none
+abbrev pub or_none : ℕ → Option ℕ
+or_none n = then_some (ltb 0 n) n
 
 unfoldable pub lowest_noted : List ℕ → (known : List ℕ) → (Wanted → Bool) → (Side → Session → Bool) → Heard → ℕ
 lowest_noted file known find both h = choose (spy_keys file known h) 2 (choose (client_accepts file find both h) 10 (choose (server_accepts file find both h) 11 0))

@@ -1,6 +1,5 @@
 -- One step of the walk, as the code does it: how many events are taken, what is written, and what the state holds before an event.
-use Rattle.std.specs.Prelude.{ℕ, suc, Bool, ◌&&◌, List, Option, ◌≡◌, ltb, set}
-use Rattle.std.specs.Bool.{then_some}
+use Rattle.std.specs.Prelude.{ℕ, suc, Bool, ◌&&◌, List, ◌≡◌, ltb, set}
 use Rattle.laws.specs.Choose.{choose}
 use Rattle.closure.specs.Closure.{known_after}
 use Rattle.earlier.specs.Kept.{Boxed}
@@ -16,10 +15,6 @@ abbrev pub paced : (ℕ → ℕ) → (ℕ → Bool) → (events : ℕ) → ℕ �
 paced rule exchange events i bytes =
     choose (ltb 0 (rule i)) (set bytes i (rule i))
     (choose (ltb (suc i) events && exchange i) (set (set bytes i 6) (suc i) 6) bytes)
-
--- no event taken is None
-abbrev pub taken_or_none : ℕ → Option ℕ
-taken_or_none n = then_some (ltb 0 n) n
 
 -- the state holds what is used and what is known before event i, the events before it in their boxes, and marks of rows that can be made
 pub record Before (file : List ℕ) (i : ℕ) (s : State) : Type 0 where

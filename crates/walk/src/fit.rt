@@ -3,7 +3,7 @@ ghost use Rattle.std.specs.Prelude.{◌≡◌};
 ghost use Rattle.earlier.specs.Earlier.{heard_in};
 ghost use Rattle.earlier.specs.Boxes.{found};
 ghost use Rattle.accepts.specs.Hashes.{both_in};
-ghost use Rattle.walk.specs.Lowest.{rule_or_none, lowest_noted, lowest_crypt, lowest_plain, lowest_said, rule_of};
+ghost use Rattle.walk.specs.Lowest.{or_none, lowest_noted, lowest_crypt, lowest_plain, lowest_said, rule_of};
 ghost use Rattle.walk.specs.Pace.{Before};
 
 use super::State;
@@ -13,7 +13,7 @@ impl State {
     // A note: 2, 10 or 11.
     #[tactic(auto, unfolding(crate::specs::Lowest::lowest_noted))]
     fn lowest_noted(&self, file: &[u8], e: u16, event: Event) -> Option<u8>
-        ensures { result ≡ rule_or_none (lowest_noted file.now self.now.known.rows
+        ensures { result ≡ or_none (lowest_noted file.now self.now.known.rows
             (found file.now self.now.boxes) (both_in file.now self.now.boxes e) (heard_in event)) }
     {
         if rules::spy_keys(file, &self.known.rows, event) {
@@ -31,7 +31,7 @@ impl State {
     // A Says of a Crypt: 5, 7, 8, 9, 12 or 13.
     #[tactic(auto, unfolding(crate::specs::Lowest::lowest_crypt))]
     fn lowest_crypt(&self, file: &[u8], event: Event) -> Option<u8>
-        ensures { result ≡ rule_or_none
+        ensures { result ≡ or_none
             (lowest_crypt file.now (found file.now self.now.boxes) (heard_in event)) }
     {
         if rules::certificate(file, event) {
@@ -58,7 +58,7 @@ impl State {
     // A Says of another message: 3, 4 or 14.
     #[tactic(auto, unfolding(crate::specs::Lowest::lowest_plain))]
     fn lowest_plain(&self, file: &[u8], event: Event) -> Option<u8>
-        ensures { result ≡ rule_or_none
+        ensures { result ≡ or_none
             (lowest_plain file.now self.now.used (found file.now self.now.boxes) (heard_in event)) }
     {
         if rules::client_hello(file, &self.used, event) {
@@ -78,7 +78,7 @@ impl State {
     fn lowest_said(&mut self, file: &[u8], e: u16, event: Event, row: RowNo) -> Option<u8>
         requires before { Before file.now e self.old }
         requires row { (heard_in event).row ≡ row.0 }
-        ensures value { result ≡ rule_or_none (lowest_said file.now self.old.used self.old.known.rows
+        ensures value { result ≡ or_none (lowest_said file.now self.old.used self.old.known.rows
             (found file.now self.old.boxes) (heard_in event)) }
         ensures before { Before file.now e self.new }
     {
@@ -91,9 +91,10 @@ impl State {
         }
     }
 
+    #[tactic(auto, using(crate::proofs::States::said_is, crate::proofs::States::noted_is))]
     pub fn lowest_rule(&mut self, file: &[u8], e: u16) -> Option<u8>
         requires { Before file.now e self.old }
-        ensures value { result ≡ rule_or_none (rule_of file.now e) }
+        ensures value { result ≡ or_none (rule_of file.now e) }
         ensures before { Before file.now e self.new }
     {
         let event = trace::event_at(file, EventNo(e));

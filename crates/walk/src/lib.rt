@@ -5,8 +5,8 @@ mod fit;
 
 ghost use Rattle.std.specs.Prelude.{◌≡◌, suc, ◌+◌, ◌<◌, ◌≤◌};
 ghost use Rattle.trace.specs.File.{event_limit};
-ghost use Rattle.walk.specs.Lowest.{rule_of, exchange_of};
-ghost use Rattle.walk.specs.Pace.{pace, paced, taken_or_none, Before};
+ghost use Rattle.walk.specs.Lowest.{or_none, rule_of, exchange_of};
+ghost use Rattle.walk.specs.Pace.{pace, paced, Before};
 ghost use Rattle.walk.specs.Walk.{cleared, walkable, walk_file};
 
 use closure::{Known, put};
@@ -50,6 +50,7 @@ impl State {
     }
 
     // Whether rule 6 puts event e and the next one on those before.
+    #[tactic(auto, using(crate::proofs::States::exchange_is))]
     fn exchanges(&self, file: &[u8], e: u16) -> bool
         requires before { Before file.now e self.now }
         requires in_range { e < event_limit }
@@ -65,7 +66,7 @@ impl State {
         requires in_range { i < events }
         requires few_events { events ≤ event_limit }
         requires before { Before file.now i self.old }
-        ensures value { result ≡ taken_or_none (pace (rule_of file.now) (exchange_of file.now) events i) }
+        ensures value { result ≡ or_none (pace (rule_of file.now) (exchange_of file.now) events i) }
         ensures rules_after { rules.new ≡
             paced (rule_of file.now) (exchange_of file.now) events i rules.old }
         ensures after { Before file.now
@@ -89,6 +90,7 @@ impl State {
 }
 
 // The first n bytes become 0.
+#[tactic(auto, unfolding(crate::specs::Walk::cleared))]
 pub fn clear(rules: &mut [u8], n: u16)
     ensures { rules.new ≡ cleared n rules.old }
 {
