@@ -6,7 +6,7 @@ use mathlib.Core.Logic.{◌⊎◌, inl, inr}
 use mathlib.Core.Path.{◌≡◌, refl, ◌∙◌}
 use native.Mathlib.Omega.{arith}
 use native.Mathlib.Decide.{dec_lt}
-use lib.ListN.{length, get_or, set}
+use lib.ListN.{length, get_or, set, length-set}
 use lib.Seq.{get_or-set_same, get_or-set_other}
 use borrow.Author.Tests.{lt-ltb, le-ltb}
 use Rattle.std.specs.Prelude.{Ok, Err}
@@ -19,13 +19,17 @@ use Rattle.trace.proofs.Told.{told_read}
 use Rattle.trace.proofs.Promised.{promises_read}
 use Rattle.walk.specs.Walk.{Walked, cleared, walk_file}
 use Rattle.walk.specs.Lowest.{rule_of, exchange_of}
-use Rattle.walk.proofs.Paces.{cleared_length}
 use Rattle.judge.specs.Judged.{RuleBytes, Judged, refused, short, illegal, accepted}
 use Rattle.judge.specs.Reply.{verdict_at, verdict_readable, rules_readable}
 use Rattle.judge.proofs.Walk.{Ended, walked}
 use Rattle.judge.proofs.Least.{rule_least, exchange_sound, exchange_complete}
 
 -- the cleared buffer
+cleared_length : (n : ℕ) (bytes : List ℕ) → length (cleared n bytes) ≡ length bytes
+unfolding cleared
+cleared_length zero bytes = refl
+cleared_length (suc n) bytes = length-set (cleared n bytes) n 0 ∙ cleared_length n bytes
+
 pub cleared_zero : (n : ℕ) (bytes : List ℕ) (i : ℕ) → i < n → n ≤ length bytes → get_or (cleared n bytes) i 0 ≡ 0
 unfolding cleared
 cleared_zero zero bytes i l room = absurd (omega arith)
