@@ -28,10 +28,3 @@ both7 a b c d e f g e₁ =
     let x = both (a && b && c && d && e && f) g e₁ in
     let y = both6 a b c d e f x.0 in
     (y.0, y.1, y.2, y.3, y.4, y.5, x.1)
-
-pub both12 : (a b c d e f g h i j k l : Bool) → (a && b && c && d && e && f && g && h && i && j && k && l) ≡ true → (a ≡ true) × (b ≡ true) × (c ≡ true) × (d ≡ true) × (e ≡ true) × (f ≡ true) × (g ≡ true) × (h ≡ true) × (i ≡ true) × (j ≡ true) × (k ≡ true) × (l ≡ true)
-both12 a b c d e f g h i j k l e₁ =
-    let x = both5 (a && b && c && d && e && f && g && h) i j k l e₁ in
-    let y = both5 (a && b && c && d) e f g h x.0 in
-    let z = both4 a b c d y.0 in
-    (z.0, z.1, z.2, z.3, y.1, y.2, y.3, y.4, x.1, x.2, x.3, x.4)

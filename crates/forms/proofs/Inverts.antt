@@ -3,256 +3,199 @@
 use Prim.Native.Nat.{ℕ, ◌<◌}
 use mathlib.Core.Bool.{true}
 use mathlib.Core.List.{List}
-use mathlib.Core.Path.{◌≡◌, refl, ◌∙◌}
+use mathlib.Core.Path.{◌≡◌, refl, ap}
 use native.Mathlib.Omega.{arith}
+use Rattle.std.specs.Prelude.{Some}
 use Rattle.paper.specs.Message as paper
 use Rattle.trace.specs.File.{rows_of, agent_limit}
 use Rattle.trace.specs.Kinds.{row_at}
 use Rattle.trace.specs.Meaning.{message}
 use Rattle.trace.specs.Meaning as meaning
 use Rattle.trace.specs.Promises.{role_meant, Promised, Keeps, agent, prf, public_key, private_key, session_key, hash, crypt, pair, Unfolds, as_agent, as_number, as_nonce, as_prf, as_public, as_private, as_session, as_hash, as_crypt, as_pair}
-use Rattle.trace.specs.declared.Role.{Role}
-use Rattle.trace.specs.declared.Role.TheVariants.{Client, Server}
 use Rattle.trace.specs.declared.Row.{Row}
-use Rattle.forms.specs.Kinds.{server_in, agent_in, agent_of, public_in, public_of, private_in, private_of, hash_in, hash_of, pair_in, pair_of, crypt_in, crypt_of, prf_in, prf_of, session_in, session_of, is_number_row, is_number, is_nonce_row, is_nonce, is_plain_row, is_plain, is_key_row, is_key}
+use Rattle.laws.proofs.Options.{Finds, finds, finding, one_found}
+use Rattle.forms.specs.declared.leaves.Crypt.{Crypt}
+use Rattle.forms.specs.declared.leaves.Prf.{Prf}
+use Rattle.forms.specs.declared.leaves.Session.{Session}
+use Rattle.forms.specs.Kinds.{agent_in, agent_of, public_in, public_of, private_in, private_of, hash_in, hash_of, pair_in, pair_of, crypt_in, crypt_of, prf_in, prf_of, session_in, session_of, is_number_row, is_number, is_nonce_row, is_nonce, is_plain_row, is_plain, is_key_row, is_key}
 use Rattle.forms.proofs.Flags.{Holds, holds, held}
-use Rattle.forms.specs.Shapes.{role_named, RowHolds, IsAgent, IsPublic, IsPrivate, IsHash, IsPair, IsCrypt, IsPrf, IsSession}
-
-role_named_lem : (o : Role) → role_named (server_in o) ≡ role_meant o
-role_named_lem Client = refl
-role_named_lem Server = refl
+use Rattle.forms.specs.Shapes.{RowHolds, IsAgent, IsPublic, IsPrivate, IsHash, IsPair, IsCrypt, IsPrf, IsSession}
 
 module _ (file : List ℕ) (P : Promised file) where
   in_file : (r x : ℕ) {X : paper.msg} → r < rows_of file → x < r → message file x ≡ X → RowHolds file x X
   in_file r x l b e = record { row = omega arith; meant = e }
 
   agent_row : (r : ℕ) (R : Row) {A : paper.agent} → Keeps file r R → Unfolds (message file) R (paper.Agent A) →
-      ((agent_in R).is ≡ true) × ((agent_in R).first ≡ A) × (A < agent_limit)
-  agent_row r R (agent b) (as_agent q) = (refl, q, rw q at b)
+      (agent_in R ≡ Some A) × (A < agent_limit)
+  agent_row r R (agent b) (as_agent q) = (ap Some q, rw q at b)
   agent_row _ _ _ u = elim u [ ]
 
-  agent_kind : (R : Row) {Z : paper.msg} → Unfolds (message file) R Z → Holds (agent_in R).is → (A : paper.agent) × (Z ≡ paper.Agent A)
-  agent_kind R (as_agent {A = A} q) holds = (A, refl)
-  agent_kind _ _ h = elim h [ ]
+  agent_kind : (R : Row) {Z : paper.msg} {A : ℕ} → Unfolds (message file) R Z → Finds (agent_in R) A → Z ≡ paper.Agent A
+  agent_kind R (as_agent q) finds = rw q refl
+  agent_kind _ _ f = elim f [ ]
 
   pub agent_complete : (r : ℕ) {A : paper.agent} → r < rows_of file → message file r ≡ paper.Agent A → IsAgent file r A
   unfolding agent_of
   agent_complete r l e =
       let u = agent_row r (row_at file r) (P.keeps r l) (rw e at (P.unfolds r l)) in
-      record { flag = u.0; whole = e; agent = u.1; few = u.2 }
+      record { found = u.0; whole = e; few = u.1 }
 
-  pub agent_sound : (r : ℕ) → r < rows_of file → (agent_of file r).is ≡ true → IsAgent file r (agent_of file r).first
+  pub agent_sound : (r : ℕ) {A : ℕ} → r < rows_of file → agent_of file r ≡ Some A → IsAgent file r A
   unfolding agent_of
-  agent_sound r l h =
-      let k = agent_kind (row_at file r) (P.unfolds r l) (held h) in
-      rw (agent_complete r l k.1).agent (agent_complete r l k.1)
+  agent_sound r l h = agent_complete r l (agent_kind (row_at file r) (P.unfolds r l) (finding h))
 
   public_row : (r : ℕ) (R : Row) {A : paper.agent} → Keeps file r R → Unfolds (message file) R (paper.Key (paper.pub_k A)) →
-      ((public_in R).is ≡ true) × ((public_in R).first ≡ A) × (A < agent_limit)
-  public_row r R (public_key b) (as_public q) = (refl, q, rw q at b)
+      (public_in R ≡ Some A) × (A < agent_limit)
+  public_row r R (public_key b) (as_public q) = (ap Some q, rw q at b)
   public_row _ _ _ u = elim u [ ]
 
-  public_kind : (R : Row) {Z : paper.msg} → Unfolds (message file) R Z → Holds (public_in R).is → (A : paper.agent) ×
-      (Z ≡ paper.Key (paper.pub_k A))
-  public_kind R (as_public {A = A} q) holds = (A, refl)
-  public_kind _ _ h = elim h [ ]
+  public_kind : (R : Row) {Z : paper.msg} {A : ℕ} → Unfolds (message file) R Z → Finds (public_in R) A → Z ≡ paper.Key (paper.pub_k A)
+  public_kind R (as_public q) finds = rw q refl
+  public_kind _ _ f = elim f [ ]
 
   pub public_complete : (r : ℕ) {A : paper.agent} → r < rows_of file → message file r ≡ paper.Key (paper.pub_k A) → IsPublic file r A
   unfolding public_of
   public_complete r l e =
       let u = public_row r (row_at file r) (P.keeps r l) (rw e at (P.unfolds r l)) in
-      record { flag = u.0; whole = e; agent = u.1; few = u.2 }
+      record { found = u.0; whole = e; few = u.1 }
 
-  pub public_sound : (r : ℕ) → r < rows_of file → (public_of file r).is ≡ true → IsPublic file r (public_of file r).first
+  pub public_sound : (r : ℕ) {A : ℕ} → r < rows_of file → public_of file r ≡ Some A → IsPublic file r A
   unfolding public_of
-  public_sound r l h =
-      let k = public_kind (row_at file r) (P.unfolds r l) (held h) in
-      rw (public_complete r l k.1).agent (public_complete r l k.1)
+  public_sound r l h = public_complete r l (public_kind (row_at file r) (P.unfolds r l) (finding h))
 
   private_row : (r : ℕ) (R : Row) {A : paper.agent} → Keeps file r R → Unfolds (message file) R (paper.Key (paper.pri_k A)) →
-      ((private_in R).is ≡ true) × ((private_in R).first ≡ A) × (A < agent_limit)
-  private_row r R (private_key b) (as_private q) = (refl, q, rw q at b)
+      (private_in R ≡ Some A) × (A < agent_limit)
+  private_row r R (private_key b) (as_private q) = (ap Some q, rw q at b)
   private_row _ _ _ u = elim u [ ]
 
-  private_kind : (R : Row) {Z : paper.msg} → Unfolds (message file) R Z → Holds (private_in R).is → (A : paper.agent) ×
-      (Z ≡ paper.Key (paper.pri_k A))
-  private_kind R (as_private {A = A} q) holds = (A, refl)
-  private_kind _ _ h = elim h [ ]
+  private_kind : (R : Row) {Z : paper.msg} {A : ℕ} → Unfolds (message file) R Z → Finds (private_in R) A → Z ≡ paper.Key (paper.pri_k A)
+  private_kind R (as_private q) finds = rw q refl
+  private_kind _ _ f = elim f [ ]
 
   pub private_complete : (r : ℕ) {A : paper.agent} → r < rows_of file → message file r ≡ paper.Key (paper.pri_k A) → IsPrivate file r A
   unfolding private_of
   private_complete r l e =
       let u = private_row r (row_at file r) (P.keeps r l) (rw e at (P.unfolds r l)) in
-      record { flag = u.0; whole = e; agent = u.1; few = u.2 }
+      record { found = u.0; whole = e; few = u.1 }
 
-  pub private_sound : (r : ℕ) → r < rows_of file → (private_of file r).is ≡ true → IsPrivate file r (private_of file r).first
+  pub private_sound : (r : ℕ) {A : ℕ} → r < rows_of file → private_of file r ≡ Some A → IsPrivate file r A
   unfolding private_of
-  private_sound r l h =
-      let k = private_kind (row_at file r) (P.unfolds r l) (held h) in
-      rw (private_complete r l k.1).agent (private_complete r l k.1)
+  private_sound r l h = private_complete r l (private_kind (row_at file r) (P.unfolds r l) (finding h))
 
   hash_row : (r : ℕ) (R : Row) {X : paper.msg} → r < rows_of file → Keeps file r R → Unfolds (message file) R (paper.Hash X) →
-      ((hash_in R).is ≡ true) × RowHolds file (hash_in R).first (X)
-  hash_row r R l (hash a) (as_hash {x = i} p) = (refl, in_file r i.0 l a p)
+      (x : ℕ) × (hash_in R ≡ Some x) × RowHolds file x X
+  hash_row r R l (hash a) (as_hash {x = i} p) = (i.0, refl, in_file r i.0 l a p)
   hash_row _ _ _ _ u = elim u [ ]
 
-  hash_kind : (R : Row) {Z : paper.msg} → Unfolds (message file) R Z → Holds (hash_in R).is → (X : paper.msg) × (Z ≡ paper.Hash X)
-  hash_kind R (as_hash {X = X} p) holds = (X, refl)
-  hash_kind _ _ h = elim h [ ]
+  hash_kind : (R : Row) {Z : paper.msg} {x : ℕ} → Unfolds (message file) R Z → Finds (hash_in R) x →
+      Z ≡ paper.Hash (message file x)
+  hash_kind R (as_hash p) finds = rw p refl
+  hash_kind _ _ f = elim f [ ]
 
-  pub hash_complete : (r : ℕ) {X : paper.msg} → r < rows_of file → message file r ≡ paper.Hash X → IsHash file r X
+  pub hash_complete : (r : ℕ) {X : paper.msg} → r < rows_of file → message file r ≡ paper.Hash X → (x : ℕ) × IsHash file r x X
   unfolding hash_of
   hash_complete r l e =
       let u = hash_row r (row_at file r) l (P.keeps r l) (rw e at (P.unfolds r l)) in
-      record { flag = u.0; whole = e; first = u.1 }
+      (u.0, record { found = u.1; whole = e; body = u.2 })
 
-  hash_told : (r : ℕ) → r < rows_of file → (hash_of file r).is ≡ true →
-      (X : paper.msg) × (message file r ≡ paper.Hash X)
+  pub hash_sound : (r : ℕ) {x : ℕ} → r < rows_of file → hash_of file r ≡ Some x →
+      IsHash file r x (message file x)
   unfolding hash_of
-  hash_told r l h = hash_kind (row_at file r) (P.unfolds r l) (held h)
-
-  pub hash_sound : (r : ℕ) → r < rows_of file → (hash_of file r).is ≡ true →
-      IsHash file r (message file (hash_of file r).first)
-  hash_sound r l h = go (hash_told r l h)
-    where
-      go : (X : paper.msg) × (message file r ≡ paper.Hash X) →
-          IsHash file r (message file (hash_of file r).first)
-      go (X, e) =
-          let c : IsHash file r X = hash_complete r l e in
-          rw c.first.meant c
+  hash_sound r l h =
+      let c = hash_complete r l (hash_kind (row_at file r) (P.unfolds r l) (finding h)) in
+      rw (one_found c.1.found h) at c.1
 
   pair_row : (r : ℕ) (R : Row) {X Y : paper.msg} → r < rows_of file → Keeps file r R → Unfolds (message file) R (paper.Pair X Y) →
-      ((pair_in R).is ≡ true) × RowHolds file (pair_in R).first (X) × RowHolds file (pair_in R).second (Y)
-  pair_row r R l (pair a b) (as_pair {x = i} {y = j} p q) = (refl, in_file r i.0 l a p, in_file r j.0 l b q)
+      (p : ℕ × ℕ) × (pair_in R ≡ Some p) × RowHolds file p.0 X × RowHolds file p.1 Y
+  pair_row r R l (pair a b) (as_pair {x = i} {y = j} p q) = ((i.0, j.0), refl, in_file r i.0 l a p, in_file r j.0 l b q)
   pair_row _ _ _ _ u = elim u [ ]
 
-  pair_kind : (R : Row) {Z : paper.msg} → Unfolds (message file) R Z → Holds (pair_in R).is → (X : paper.msg) × (Y : paper.msg) ×
-      (Z ≡ paper.Pair X Y)
-  pair_kind R (as_pair {X = X} {Y = Y} p q) holds = (X, Y, refl)
-  pair_kind _ _ h = elim h [ ]
+  pair_kind : (R : Row) {Z : paper.msg} {p : ℕ × ℕ} → Unfolds (message file) R Z → Finds (pair_in R) p →
+      Z ≡ paper.Pair (message file p.0) (message file p.1)
+  pair_kind R (as_pair p q) finds = rw (p, q) refl
+  pair_kind _ _ f = elim f [ ]
 
-  pub pair_complete : (r : ℕ) {X Y : paper.msg} → r < rows_of file → message file r ≡ paper.Pair X Y → IsPair file r X Y
+  pub pair_complete : (r : ℕ) {X Y : paper.msg} → r < rows_of file → message file r ≡ paper.Pair X Y → (p : ℕ × ℕ) × IsPair file r p X Y
   unfolding pair_of
   pair_complete r l e =
       let u = pair_row r (row_at file r) l (P.keeps r l) (rw e at (P.unfolds r l)) in
-      record { flag = u.0; whole = e; first = u.1; second = u.2 }
+      (u.0, record { found = u.1; whole = e; first = u.2; second = u.3 })
 
-  pair_told : (r : ℕ) → r < rows_of file → (pair_of file r).is ≡ true →
-      (X : paper.msg) × (Y : paper.msg) × (message file r ≡ paper.Pair X Y)
+  pub pair_sound : (r : ℕ) {p : ℕ × ℕ} → r < rows_of file → pair_of file r ≡ Some p →
+      IsPair file r p (message file p.0) (message file p.1)
   unfolding pair_of
-  pair_told r l h = pair_kind (row_at file r) (P.unfolds r l) (held h)
+  pair_sound r l h =
+      let c = pair_complete r l (pair_kind (row_at file r) (P.unfolds r l) (finding h)) in
+      rw (one_found c.1.found h) at c.1
 
-  pub pair_sound : (r : ℕ) → r < rows_of file → (pair_of file r).is ≡ true →
-      IsPair file r (message file (pair_of file r).first) (message file (pair_of file r).second)
-  pair_sound r l h = go (pair_told r l h)
-    where
-      go : (X : paper.msg) × (Y : paper.msg) × (message file r ≡ paper.Pair X Y) →
-          IsPair file r (message file (pair_of file r).first) (message file (pair_of file r).second)
-      go (X, Y, e) =
-          let c : IsPair file r X Y = pair_complete r l e in
-          rw (c.first.meant, c.second.meant) c
-
-  crypt_row : (r : ℕ) (R : Row) {K : paper.key} {X : paper.msg} → r < rows_of file → Keeps file r R →
-      Unfolds (message file) R (paper.Crypt K X) →
-      ((crypt_in R).is ≡ true) × RowHolds file (crypt_in R).first (paper.Key K) × RowHolds file (crypt_in R).second (X)
-  crypt_row r R l (crypt a b) (as_crypt {k = i} {x = j} p q) = (refl, in_file r i.0 l a.below p, in_file r j.0 l b q)
+  crypt_row : (r : ℕ) (R : Row) {K : paper.key} {X : paper.msg} → r < rows_of file → Keeps file r R → Unfolds (message file) R (paper.Crypt K X) →
+      (c : Crypt) × (crypt_in R ≡ Some c) × RowHolds file c.key (paper.Key K) × RowHolds file c.body X
+  crypt_row r R l (crypt a b) (as_crypt {k = i} {x = j} p q) = (record { key = i.0; body = j.0 }, refl, in_file r i.0 l a.below p, in_file r j.0 l b q)
   crypt_row _ _ _ _ u = elim u [ ]
 
-  crypt_kind : (R : Row) {Z : paper.msg} → Unfolds (message file) R Z → Holds (crypt_in R).is → (K : paper.key) × (X : paper.msg) ×
-      (Z ≡ paper.Crypt K X)
-  crypt_kind R (as_crypt {K = K} {X = X} p q) holds = (K, X, refl)
-  crypt_kind _ _ h = elim h [ ]
+  crypt_kind : (R : Row) {Z : paper.msg} {c : Crypt} → Unfolds (message file) R Z → Finds (crypt_in R) c →
+      Z ≡ paper.Crypt (meaning.as_key (message file c.key)) (message file c.body)
+  crypt_kind R (as_crypt p q) finds = rw (p, q) refl
+  crypt_kind _ _ f = elim f [ ]
 
-  pub crypt_complete : (r : ℕ) {K : paper.key} {X : paper.msg} → r < rows_of file → message file r ≡ paper.Crypt K X → IsCrypt file r K X
+  pub crypt_complete : (r : ℕ) {K : paper.key} {X : paper.msg} → r < rows_of file → message file r ≡ paper.Crypt K X → (c : Crypt) × IsCrypt file r c K X
   unfolding crypt_of
   crypt_complete r l e =
       let u = crypt_row r (row_at file r) l (P.keeps r l) (rw e at (P.unfolds r l)) in
-      record { flag = u.0; whole = e; first = u.1; second = u.2 }
+      (u.0, record { found = u.1; whole = e; key = u.2; body = u.3 })
 
-  crypt_told : (r : ℕ) → r < rows_of file → (crypt_of file r).is ≡ true →
-      (K : paper.key) × (X : paper.msg) × (message file r ≡ paper.Crypt K X)
+  pub crypt_sound : (r : ℕ) {c : Crypt} → r < rows_of file → crypt_of file r ≡ Some c →
+      IsCrypt file r c (meaning.as_key (message file c.key)) (message file c.body)
   unfolding crypt_of
-  crypt_told r l h = crypt_kind (row_at file r) (P.unfolds r l) (held h)
+  crypt_sound r l h =
+      let c = crypt_complete r l (crypt_kind (row_at file r) (P.unfolds r l) (finding h)) in
+      rw (one_found c.1.found h) at c.1
 
-  pub crypt_sound : (r : ℕ) → r < rows_of file → (crypt_of file r).is ≡ true →
-      IsCrypt file r (meaning.as_key (message file (crypt_of file r).first)) (message file (crypt_of file r).second)
-  crypt_sound r l h = go (crypt_told r l h)
-    where
-      go : (K : paper.key) × (X : paper.msg) × (message file r ≡ paper.Crypt K X) →
-          IsCrypt file r (meaning.as_key (message file (crypt_of file r).first)) (message file (crypt_of file r).second)
-      go (K, X, e) =
-          let c : IsCrypt file r K X = crypt_complete r l e in
-          rw (c.first.meant, c.second.meant) c
-
-  prf_row : (r : ℕ) (R : Row) {S Na Nb : paper.nonce} → r < rows_of file → Keeps file r R →
-      Unfolds (message file) R (paper.Nonce (paper.PRF S Na Nb)) →
-      ((prf_in R).is ≡ true) × RowHolds file (prf_in R).first (paper.Nonce S) × RowHolds file (prf_in R).second (paper.Nonce Na) ×
-      RowHolds file (prf_in R).third (paper.Nonce Nb)
-  prf_row r R l (prf a b c) (as_prf {s = i} {x = j} {y = k} p q s) = (refl, in_file r i.0 l a.below p, in_file r j.0 l b.below q, in_file r k.0 l c.below s)
+  prf_row : (r : ℕ) (R : Row) {S Na Nb : paper.nonce} → r < rows_of file → Keeps file r R → Unfolds (message file) R (paper.Nonce (paper.PRF S Na Nb)) →
+      (f : Prf) × (prf_in R ≡ Some f) × RowHolds file f.secret (paper.Nonce S) × RowHolds file f.na (paper.Nonce Na) × RowHolds file f.nb (paper.Nonce Nb)
+  prf_row r R l (prf a b c) (as_prf {s = i} {x = j} {y = k} p q s) = (record { secret = i.0; na = j.0; nb = k.0 }, refl, in_file r i.0 l a.below p, in_file r j.0 l b.below q, in_file r k.0 l c.below s)
   prf_row _ _ _ _ u = elim u [ ]
 
-  prf_kind : (R : Row) {Z : paper.msg} → Unfolds (message file) R Z → Holds (prf_in R).is → (S : paper.nonce) × (Na : paper.nonce) ×
-      (Nb : paper.nonce) × (Z ≡ paper.Nonce (paper.PRF S Na Nb))
-  prf_kind R (as_prf {S = S} {X = Na} {Y = Nb} p q s) holds = (S, Na, Nb, refl)
-  prf_kind _ _ h = elim h [ ]
+  prf_kind : (R : Row) {Z : paper.msg} {f : Prf} → Unfolds (message file) R Z → Finds (prf_in R) f →
+      Z ≡ paper.Nonce (paper.PRF (meaning.as_nonce (message file f.secret)) (meaning.as_nonce (message file f.na)) (meaning.as_nonce (message file f.nb)))
+  prf_kind R (as_prf p q s) finds = rw (p, q, s) refl
+  prf_kind _ _ f = elim f [ ]
 
-  pub prf_complete : (r : ℕ) {S Na Nb : paper.nonce} → r < rows_of file → message file r ≡ paper.Nonce (paper.PRF S Na Nb) →
-      IsPrf file r S Na Nb
+  pub prf_complete : (r : ℕ) {S Na Nb : paper.nonce} → r < rows_of file → message file r ≡ paper.Nonce (paper.PRF S Na Nb) → (f : Prf) × IsPrf file r f S Na Nb
   unfolding prf_of
   prf_complete r l e =
       let u = prf_row r (row_at file r) l (P.keeps r l) (rw e at (P.unfolds r l)) in
-      record { flag = u.0; whole = e; first = u.1; second = u.2; third = u.3 }
+      (u.0, record { found = u.1; whole = e; secret = u.2; na = u.3; nb = u.4 })
 
-  prf_told : (r : ℕ) → r < rows_of file → (prf_of file r).is ≡ true →
-      (S : paper.nonce) × (Na : paper.nonce) × (Nb : paper.nonce) × (message file r ≡ paper.Nonce (paper.PRF S Na Nb))
+  pub prf_sound : (r : ℕ) {f : Prf} → r < rows_of file → prf_of file r ≡ Some f →
+      IsPrf file r f (meaning.as_nonce (message file f.secret)) (meaning.as_nonce (message file f.na)) (meaning.as_nonce (message file f.nb))
   unfolding prf_of
-  prf_told r l h = prf_kind (row_at file r) (P.unfolds r l) (held h)
+  prf_sound r l h =
+      let c = prf_complete r l (prf_kind (row_at file r) (P.unfolds r l) (finding h)) in
+      rw (one_found c.1.found h) at c.1
 
-  pub prf_sound : (r : ℕ) → r < rows_of file → (prf_of file r).is ≡ true →
-      IsPrf file r (meaning.as_nonce (message file (prf_of file r).first)) (meaning.as_nonce (message file (prf_of file r).second)) (meaning.as_nonce (message file (prf_of file r).third))
-  prf_sound r l h = go (prf_told r l h)
-    where
-      go : (S : paper.nonce) × (Na : paper.nonce) × (Nb : paper.nonce) × (message file r ≡ paper.Nonce (paper.PRF S Na Nb)) →
-          IsPrf file r (meaning.as_nonce (message file (prf_of file r).first)) (meaning.as_nonce (message file (prf_of file r).second)) (meaning.as_nonce (message file (prf_of file r).third))
-      go (S, Na, Nb, e) =
-          let c : IsPrf file r S Na Nb = prf_complete r l e in
-          rw (c.first.meant, c.second.meant, c.third.meant) c
-
-  session_row : (r : ℕ) (R : Row) {R' : paper.role} {Na Nb M : paper.nonce} → r < rows_of file → Keeps file r R →
-      Unfolds (message file) R (paper.Key (paper.session_k R' Na Nb M)) →
-      ((session_in R).is ≡ true) × (role_named (session_in R).server ≡ R') × RowHolds file (session_in R).first (paper.Nonce Na) ×
-      RowHolds file (session_in R).second (paper.Nonce Nb) × RowHolds file (session_in R).third (paper.Nonce M)
-  session_row r R l (session_key a b c) (as_session {r = o} {x = i} {y = j} {z = k} t p q s) = (refl, role_named_lem o ∙ t, in_file r i.0 l a.below p, in_file r j.0 l b.below q, in_file r k.0 l c.below s)
+  session_row : (r : ℕ) (R : Row) {R' : paper.role} {Na Nb M : paper.nonce} → r < rows_of file → Keeps file r R → Unfolds (message file) R (paper.Key (paper.session_k R' Na Nb M)) →
+      (s : Session) × (session_in R ≡ Some s) × (role_meant s.role ≡ R') × RowHolds file s.na (paper.Nonce Na) × RowHolds file s.nb (paper.Nonce Nb) × RowHolds file s.m (paper.Nonce M)
+  session_row r R l (session_key a b c) (as_session {r = o} {x = i} {y = j} {z = k} t p q s) = (record { role = o; na = i.0; nb = j.0; m = k.0 }, refl, t, in_file r i.0 l a.below p, in_file r j.0 l b.below q, in_file r k.0 l c.below s)
   session_row _ _ _ _ u = elim u [ ]
 
-  session_kind : (R : Row) {Z : paper.msg} → Unfolds (message file) R Z → Holds (session_in R).is → (R' : paper.role) ×
-      (Na : paper.nonce) × (Nb : paper.nonce) × (M : paper.nonce) × (Z ≡ paper.Key (paper.session_k R' Na Nb M))
-  session_kind R (as_session {R = R'} {X = Na} {Y = Nb} {Z = M} t p q s) holds = (R', Na, Nb, M, refl)
-  session_kind _ _ h = elim h [ ]
+  session_kind : (R : Row) {Z : paper.msg} {s : Session} → Unfolds (message file) R Z → Finds (session_in R) s →
+      Z ≡ paper.Key (paper.session_k (role_meant s.role) (meaning.as_nonce (message file s.na)) (meaning.as_nonce (message file s.nb)) (meaning.as_nonce (message file s.m)))
+  session_kind R (as_session t p q s) finds = rw (t, p, q, s) refl
+  session_kind _ _ f = elim f [ ]
 
-  pub session_complete : (r : ℕ) {R' : paper.role} {Na Nb M : paper.nonce} → r < rows_of file →
-      message file r ≡ paper.Key (paper.session_k R' Na Nb M) → IsSession file r R' Na Nb M
+  pub session_complete : (r : ℕ) {R' : paper.role} {Na Nb M : paper.nonce} → r < rows_of file → message file r ≡ paper.Key (paper.session_k R' Na Nb M) → (s : Session) × IsSession file r s R' Na Nb M
   unfolding session_of
   session_complete r l e =
       let u = session_row r (row_at file r) l (P.keeps r l) (rw e at (P.unfolds r l)) in
-      record { flag = u.0; whole = e; role = u.1; first = u.2; second = u.3; third = u.4 }
+      (u.0, record { found = u.1; whole = e; role = u.2; na = u.3; nb = u.4; m = u.5 })
 
-  session_told : (r : ℕ) → r < rows_of file → (session_of file r).is ≡ true →
-      (R' : paper.role) × (Na : paper.nonce) × (Nb : paper.nonce) × (M : paper.nonce) ×
-      (message file r ≡ paper.Key (paper.session_k R' Na Nb M))
+  pub session_sound : (r : ℕ) {s : Session} → r < rows_of file → session_of file r ≡ Some s →
+      IsSession file r s (role_meant s.role) (meaning.as_nonce (message file s.na)) (meaning.as_nonce (message file s.nb)) (meaning.as_nonce (message file s.m))
   unfolding session_of
-  session_told r l h = session_kind (row_at file r) (P.unfolds r l) (held h)
-
-  pub session_sound : (r : ℕ) → r < rows_of file → (session_of file r).is ≡ true →
-      IsSession file r (role_named (session_of file r).server) (meaning.as_nonce (message file (session_of file r).first)) (meaning.as_nonce (message file (session_of file r).second)) (meaning.as_nonce (message file (session_of file r).third))
-  session_sound r l h = go (session_told r l h)
-    where
-      go : (R' : paper.role) × (Na : paper.nonce) × (Nb : paper.nonce) × (M : paper.nonce) ×
-          (message file r ≡ paper.Key (paper.session_k R' Na Nb M)) →
-          IsSession file r (role_named (session_of file r).server) (meaning.as_nonce (message file (session_of file r).first)) (meaning.as_nonce (message file (session_of file r).second)) (meaning.as_nonce (message file (session_of file r).third))
-      go (R', Na, Nb, M, e) =
-          let c : IsSession file r R' Na Nb M = session_complete r l e in
-          rw (c.role, c.first.meant, c.second.meant, c.third.meant) c
+  session_sound r l h =
+      let c = session_complete r l (session_kind (row_at file r) (P.unfolds r l) (finding h)) in
+      rw (one_found c.1.found h) at c.1
 
   number_row : (R : Row) {n : ℕ} → Unfolds (message file) R (paper.Number n) → is_number_row R ≡ true
   number_row R (as_number q) = refl

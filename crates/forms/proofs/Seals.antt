@@ -7,15 +7,23 @@ use mathlib.Core.List.{List}
 use mathlib.Core.Path.{◌≡◌, refl, sym, ◌∙◌}
 use lib.Dec.{eqb}
 use borrow.Author.Tests.{eqb-true, eq-eqb}
+use Rattle.std.specs.Prelude.{Some}
 use Rattle.paper.specs.Message as paper
 use Rattle.paper.specs.Rules.{agreed, Finished}
 use Rattle.trace.specs.File.{rows_of}
-use Rattle.trace.specs.Meaning.{as_nonce, message}
-use Rattle.trace.specs.Promises.{Promised}
-use Rattle.forms.specs.Kinds.{agent_of, private_of, hash_of, pair_of, crypt_of, prf_of, session_of, is_number, is_nonce}
-use Rattle.forms.specs.Forms.{three_of, four_of, agreement_of, sealed_of, derived_of, verified_of}
-use Rattle.forms.specs.Shapes.{role_named, RowHolds, IsAgreed, IsSealed, IsDerived, IsVerified}
-use Rattle.forms.proofs.Flags.{both6, both7, both12}
+use Rattle.trace.specs.Meaning.{message}
+use Rattle.trace.specs.Promises.{role_meant, Promised}
+use Rattle.laws.proofs.Both.{both, both3}
+use Rattle.laws.proofs.Options.{one_found, and_then_some, then_some_true}
+use Rattle.forms.specs.Kinds.{session_of}
+use Rattle.forms.specs.Forms.{agreement_of, sealed_of, derived_of, verified_of}
+use Rattle.forms.specs.declared.leaves.Session.{Session}
+use Rattle.forms.specs.declared.Agreed.{Agreed}
+use Rattle.forms.specs.declared.Sealed.{Sealed}
+use Rattle.forms.specs.declared.Derived.{Derived}
+use Rattle.forms.specs.declared.Verified.{Verified}
+use Rattle.forms.specs.Shapes.{RowHolds, IsAgreed, IsSealed, IsDerived, IsVerified}
+use Rattle.forms.proofs.Flags.{both6}
 use Rattle.forms.proofs.Inverts.{agent_complete, agent_sound, private_complete, private_sound, hash_complete, hash_sound, pair_complete, pair_sound, crypt_complete, crypt_sound, prf_complete, prf_sound, session_complete, session_sound, number_complete, number_sound, nonce_complete, nonce_sound}
 use Rattle.forms.proofs.Links.{three_complete, three_sound, four_complete, four_sound}
 
@@ -25,213 +33,198 @@ module _ (file : List ℕ) (P : Promised file) where
   same_row x y p q = eq-eqb x y (P.apart x y p.row q.row (p.meant ∙ sym q.meant))
 
   pub agreement_complete : (r : ℕ) {SID : ℕ} {M Na : paper.nonce} {Pa : ℕ} {A : paper.agent} {Nb : paper.nonce} {Pb : ℕ} {B : paper.agent} →
-      r < rows_of file → message file r ≡ agreed SID M Na Pa A Nb Pb B → IsAgreed file r SID M Na Pa A Nb Pb B
+      r < rows_of file → message file r ≡ agreed SID M Na Pa A Nb Pb B → (x : Agreed) × IsAgreed file r x SID M Na Pa A Nb Pb B
   unfolding agreement_of
   agreement_complete r l e =
-      let h = hash_complete file P r l e in
-      let f = four_complete file P (hash_of file r).first h.first.row h.first.meant in
-      let p = pair_complete file P (four_of file (hash_of file r).first).fourth f.fourth.row f.fourth.meant in
-      let i = (pair_of file (four_of file (hash_of file r).first).fourth).second in
-      let g = four_complete file P i p.second.row p.second.meant in
-      let sid = number_complete file P (four_of file (hash_of file r).first).first f.first.row f.first.meant in
-      let m = nonce_complete file P (four_of file (hash_of file r).first).second f.second.row f.second.meant in
-      let na = nonce_complete file P (four_of file (hash_of file r).first).third f.third.row f.third.meant in
-      let pa = number_complete file P (pair_of file (four_of file (hash_of file r).first).fourth).first p.first.row p.first.meant in
-      let a = agent_complete file P (four_of file i).first g.first.row g.first.meant in
-      let nb = nonce_complete file P (four_of file i).second g.second.row g.second.meant in
-      let pb = number_complete file P (four_of file i).third g.third.row g.third.meant in
-      let b = agent_complete file P (four_of file i).fourth g.fourth.row g.fourth.meant in
-      record {
-        flag = rw (h.flag, f.flag, p.flag, g.flag, sid, m, na, pa, a.flag, nb, pb, b.flag) refl;
-        whole = e;
-        sid = f.first;
-        m = f.second;
-        na = f.third;
-        pa = p.first;
-        a = a.agent;
-        nb = g.second;
-        pb = g.third;
-        b = b.agent;
-      }
+      let (h, ish) = hash_complete file P r l e in
+      let (f, isf) = four_complete file P h ish.body.row ish.body.meant in
+      let (p, isp) = pair_complete file P f.3 isf.fourth.row isf.fourth.meant in
+      let (g, isg) = four_complete file P p.1 isp.second.row isp.second.meant in
+      let sid = number_complete file P f.0 isf.first.row isf.first.meant in
+      let m = nonce_complete file P f.1 isf.second.row isf.second.meant in
+      let na = nonce_complete file P f.2 isf.third.row isf.third.meant in
+      let pa = number_complete file P p.0 isp.first.row isp.first.meant in
+      let a = agent_complete file P g.0 isg.first.row isg.first.meant in
+      let nb = nonce_complete file P g.1 isg.second.row isg.second.meant in
+      let pb = number_complete file P g.2 isg.third.row isg.third.meant in
+      let b = agent_complete file P g.3 isg.fourth.row isg.fourth.meant in
+      let x : Agreed = record { sid = f.0; m = f.1; na = f.2; pa = p.0; a = _; nb = g.1; pb = g.2; b = _ } in (
+        x,
+        record {
+          found = rw (ish.found, isf.found, isp.found, isg.found, a.found, b.found, sid, m, na, pa, nb, pb) (refl {a = Some x});
+          whole = e;
+          sid = isf.first;
+          m = isf.second;
+          na = isf.third;
+          pa = isp.first;
+          a = refl;
+          nb = isg.second;
+          pb = isg.third;
+          b = refl;
+        },
+      )
 
-  pub agreement_sound : (r : ℕ) → r < rows_of file → (agreement_of file r).is ≡ true →
+  agreement_told : {r : ℕ} {x : Agreed} {SID : ℕ} {M Na : paper.nonce} {Pa : ℕ} {A : paper.agent} {Nb : paper.nonce} {Pb : ℕ} {B : paper.agent} →
+      agreement_of file r ≡ Some x → (y : Agreed) × IsAgreed file r y SID M Na Pa A Nb Pb B → IsAgreed file r x SID M Na Pa x.a Nb Pb x.b
+  agreement_told h (y, c) = rw (← c.a, ← c.b, one_found c.found h) at c
+
+  pub agreement_sound : (r : ℕ) {x : Agreed} → r < rows_of file → agreement_of file r ≡ Some x →
       (SID : ℕ) × (M : paper.nonce) × (Na : paper.nonce) × (Pa : ℕ) × (Nb : paper.nonce) × (Pb : ℕ) ×
-      IsAgreed file r SID M Na Pa (agreement_of file r).a Nb Pb (agreement_of file r).b
+      IsAgreed file r x SID M Na Pa x.a Nb Pb x.b
   unfolding agreement_of
   agreement_sound r l t =
-      let j = (hash_of file r).first in
-      let k = (four_of file j).fourth in
-      let i = (pair_of file k).second in
-      let z =
-      both12 (hash_of file r).is (four_of file j).is (pair_of file k).is (four_of file i).is (is_number file (four_of file j).first)
-      (is_nonce file (four_of file j).second) (is_nonce file (four_of file j).third) (is_number file (pair_of file k).first)
-      (agent_of file (four_of file i).first).is (is_nonce file (four_of file i).second) (is_number file (four_of file i).third)
-      (agent_of file (four_of file i).fourth).is t
-      in
-      let h = hash_sound file P r l z.0 in
-      let f = four_sound file P j h.first.row z.1 in
-      let p = pair_sound file P k f.fourth.row z.2 in
-      let g = four_sound file P i p.second.row z.3 in
-      let sid = number_sound file P (four_of file j).first f.first.row z.4 in
-      let m = nonce_sound file P (four_of file j).second f.second.row z.5 in
-      let na = nonce_sound file P (four_of file j).third f.third.row z.6 in
-      let pa = number_sound file P (pair_of file k).first p.first.row z.7 in
-      let a = agent_sound file P (four_of file i).first g.first.row z.8 in
-      let nb = nonce_sound file P (four_of file i).second g.second.row z.9 in
-      let pb = number_sound file P (four_of file i).third g.third.row z.10 in
-      let b = agent_sound file P (four_of file i).fourth g.fourth.row z.11 in (
-        sid.0,
-        m.0,
-        na.0,
-        pa.0,
-        nb.0,
-        pb.0,
-        agreement_complete r l
-            (rw (h.whole, f.whole, p.whole, g.whole, sid.1, m.1, na.1, pa.1, a.whole, nb.1, pb.1, b.whole)
-            (refl {a = agreed sid.0 m.0 na.0 pa.0 (agreement_of file r).a nb.0 pb.0 (agreement_of file r).b})),
-      )
+      let (h, eh, hh) = and_then_some t in
+      let (f, ef, hf) = and_then_some hh in
+      let (p, ep, hp) = and_then_some hf in
+      let (g, eg, hg) = and_then_some hp in
+      let (a, ea, ha) = and_then_some hg in
+      let (b, eb, hb) = and_then_some ha in
+      let z = both6 _ _ _ _ _ _ (then_some_true hb).0 in
+      let ish = hash_sound file P r l eh in
+      let isf = four_sound file P h ish.body.row ef in
+      let isp = pair_sound file P f.3 isf.fourth.row ep in
+      let isg = four_sound file P p.1 isp.second.row eg in
+      let isa = agent_sound file P g.0 isg.first.row ea in
+      let isb = agent_sound file P g.3 isg.fourth.row eb in
+      let sid = number_sound file P f.0 isf.first.row z.0 in
+      let m = nonce_sound file P f.1 isf.second.row z.1 in
+      let na = nonce_sound file P f.2 isf.third.row z.2 in
+      let pa = number_sound file P p.0 isp.first.row z.3 in
+      let nb = nonce_sound file P g.1 isg.second.row z.4 in
+      let pb = number_sound file P g.2 isg.third.row z.5 in
+      let whole = rw (isf.whole, isp.whole, isg.whole, isa.whole, isb.whole, sid.1, m.1, na.1, pa.1, nb.1, pb.1) at ish.whole in
+      (sid.0, m.0, na.0, pa.0, nb.0, pb.0, agreement_told t (agreement_complete r l whole))
 
   pub sealed_complete : (r : ℕ) {R : paper.role} {SID : ℕ} {M Na : paper.nonce} {Pa : ℕ} {A : paper.agent} {Nb : paper.nonce} {Pb : ℕ} {B : paper.agent} →
-      r < rows_of file → message file r ≡ Finished R SID M Na Pa A Nb Pb B → IsSealed file r R SID M Na Pa A Nb Pb B
+      r < rows_of file → message file r ≡ Finished R SID M Na Pa A Nb Pb B → (x : Sealed) × IsSealed file r x R SID M Na Pa A Nb Pb B
   unfolding sealed_of
   sealed_complete r l e =
-      let c = crypt_complete file P r l e in
-      let s = session_complete file P (crypt_of file r).first c.first.row c.first.meant in
-      let g = agreement_complete (crypt_of file r).second c.second.row c.second.meant in
-      let na = same_row (session_of file (crypt_of file r).first).first (agreement_of file (crypt_of file r).second).na s.first g.na in
-      let nb = same_row (session_of file (crypt_of file r).first).second (agreement_of file (crypt_of file r).second).nb s.second g.nb in
-      let m = same_row (session_of file (crypt_of file r).first).third (agreement_of file (crypt_of file r).second).m s.third g.m in
-      record {
-        flag = rw (c.flag, s.flag, g.flag, na, nb, m) refl;
-        whole = e;
-        role = s.role;
-        hash = c.second;
-        sid = g.sid;
-        m = g.m;
-        na = g.na;
-        pa = g.pa;
-        a = g.a;
-        nb = g.nb;
-        pb = g.pb;
-        b = g.b;
-      }
+      let (c, isc) = crypt_complete file P r l e in
+      let (s, iss) = session_complete file P c.key isc.key.row isc.key.meant in
+      let (g, isg) = agreement_complete c.body isc.body.row isc.body.meant in
+      let na = same_row s.na g.na iss.na isg.na in
+      let nb = same_row s.nb g.nb iss.nb isg.nb in
+      let m = same_row s.m g.m iss.m isg.m in (
+        _,
+        record {
+          found = rw (isc.found, iss.found, isg.found, na, nb, m) refl;
+          whole = e;
+          role = iss.role;
+          hash = isc.body;
+          sid = isg.sid;
+          m = isg.m;
+          na = isg.na;
+          pa = isg.pa;
+          a = isg.a;
+          nb = isg.nb;
+          pb = isg.pb;
+          b = isg.b;
+        },
+      )
+
+  sealed_told : {r : ℕ} {x : Sealed} {R : paper.role} {SID : ℕ} {M Na : paper.nonce} {Pa : ℕ} {A : paper.agent} {Nb : paper.nonce} {Pb : ℕ} {B : paper.agent} →
+      sealed_of file r ≡ Some x → (y : Sealed) × IsSealed file r y R SID M Na Pa A Nb Pb B →
+      IsSealed file r x (role_meant x.role) SID M Na Pa x.a Nb Pb x.b
+  sealed_told h (y, c) = rw (← c.role, ← c.a, ← c.b, one_found c.found h) at c
 
   -- the session key of rows that hold the nonces Na, Nb and M
-  pub session_of_lem : (k x y z : ℕ) {Na Nb M : paper.nonce} → k < rows_of file → (session_of file k).is ≡ true →
-      (session_of file k).first ≡ x → (session_of file k).second ≡ y → (session_of file k).third ≡ z →
+  session_key : (k x y z : ℕ) {s : Session} {Na Nb M : paper.nonce} → k < rows_of file → session_of file k ≡ Some s →
+      s.na ≡ x → s.nb ≡ y → s.m ≡ z →
       RowHolds file x (paper.Nonce Na) → RowHolds file y (paper.Nonce Nb) → RowHolds file z (paper.Nonce M) →
-      message file k ≡ paper.Key (paper.session_k (role_named (session_of file k).server) Na Nb M)
-  session_of_lem k x y z l h ex ey ez hx hy hz =
-      let s = session_sound file P k l h in
-      rw (s.whole, ex, ey, ez, hx.meant, hy.meant, hz.meant) refl
+      message file k ≡ paper.Key (paper.session_k (role_meant s.role) Na Nb M)
+  session_key k x y z l h ex ey ez hx hy hz =
+      rw ((session_sound file P k l h).whole, ex, ey, ez, hx.meant, hy.meant, hz.meant) refl
 
-  pub sealed_sound : (r : ℕ) → r < rows_of file → (sealed_of file r).is ≡ true →
+  pub sealed_sound : (r : ℕ) {x : Sealed} → r < rows_of file → sealed_of file r ≡ Some x →
       (SID : ℕ) × (M : paper.nonce) × (Na : paper.nonce) × (Pa : ℕ) × (Nb : paper.nonce) × (Pb : ℕ) ×
-      IsSealed file r (role_named (sealed_of file r).server) SID M Na Pa (sealed_of file r).a Nb Pb (sealed_of file r).b
+      IsSealed file r x (role_meant x.role) SID M Na Pa x.a Nb Pb x.b
   unfolding sealed_of
   sealed_sound r l h =
-      let k = (crypt_of file r).first in
-      let x = (crypt_of file r).second in
-      let b =
-      both6 (crypt_of file r).is (session_of file k).is (agreement_of file x).is
-      (eqb (session_of file k).first (agreement_of file x).na) (eqb (session_of file k).second (agreement_of file x).nb)
-      (eqb (session_of file k).third (agreement_of file x).m) h
-      in
-      let c = crypt_sound file P r l b.0 in
-      let g = agreement_sound x c.second.row b.2 in
-      let s =
-      session_of_lem k (agreement_of file x).na (agreement_of file x).nb (agreement_of file x).m c.first.row b.1
-      (eqb-true _ _ b.3) (eqb-true _ _ b.4) (eqb-true _ _ b.5) g.6.na g.6.nb g.6.m
-      in (
-        g.0,
-        g.1,
-        g.2,
-        g.3,
-        g.4,
-        g.5,
-        sealed_complete r l (rw (c.whole, s, g.6.whole)
-            (refl {a = Finished (role_named (session_of file k).server) g.0 g.1 g.2 g.3 (agreement_of file x).a g.4 g.5 (agreement_of file x).b})),
-      )
+      let (c, ec, hc) = and_then_some h in
+      let (s, es, hs) = and_then_some hc in
+      let (g, eg, hg) = and_then_some hs in
+      let isc = crypt_sound file P r l ec in
+      let (SID, M, Na, Pa, Nb, Pb, isg) = agreement_sound c.body isc.body.row eg in
+      let b = both3 _ _ _ (then_some_true hg).0 in
+      let key = session_key c.key g.na g.nb g.m isc.key.row es (eqb-true _ _ b.0) (eqb-true _ _ b.1) (eqb-true _ _ b.2) isg.na isg.nb isg.m in
+      (SID, M, Na, Pa, Nb, Pb, sealed_told h (sealed_complete r l (rw (key, isg.whole) at isc.whole)))
 
   pub derived_complete : (r : ℕ) {R : paper.role} {M Na Nb : paper.nonce} → r < rows_of file →
-      message file r ≡ paper.Pair (paper.Nonce (paper.PRF M Na Nb)) (paper.Key (paper.session_k R Na Nb M)) → IsDerived file r R M Na Nb
+      message file r ≡ paper.Pair (paper.Nonce (paper.PRF M Na Nb)) (paper.Key (paper.session_k R Na Nb M)) →
+      (x : Derived) × IsDerived file r x R M Na Nb
   unfolding derived_of
   derived_complete r l e =
-      let p = pair_complete file P r l e in
-      let f = prf_complete file P (pair_of file r).first p.first.row p.first.meant in
-      let s = session_complete file P (pair_of file r).second p.second.row p.second.meant in
-      let m = same_row (prf_of file (pair_of file r).first).first (session_of file (pair_of file r).second).third f.first s.third in
-      let na = same_row (prf_of file (pair_of file r).first).second (session_of file (pair_of file r).second).first f.second s.first in
-      let nb = same_row (prf_of file (pair_of file r).first).third (session_of file (pair_of file r).second).second f.third s.second in
-      record {
-        flag = rw (p.flag, f.flag, s.flag, m, na, nb) refl;
-        whole = e;
-        m = f.first;
-        na = f.second;
-        nb = f.third;
-      }
+      let (p, isp) = pair_complete file P r l e in
+      let (f, isf) = prf_complete file P p.0 isp.first.row isp.first.meant in
+      let (s, iss) = session_complete file P p.1 isp.second.row isp.second.meant in
+      let m = same_row f.secret s.m isf.secret iss.m in
+      let na = same_row f.na s.na isf.na iss.na in
+      let nb = same_row f.nb s.nb isf.nb iss.nb in
+      (_, record { found = rw (isp.found, isf.found, iss.found, m, na, nb) refl; whole = e; m = isf.secret; na = isf.na; nb = isf.nb })
 
-  pub derived_sound : (r : ℕ) → r < rows_of file → (derived_of file r).is ≡ true →
-      (R : paper.role) × (M : paper.nonce) × (Na : paper.nonce) × (Nb : paper.nonce) × IsDerived file r R M Na Nb
+  derived_told : {r : ℕ} {x : Derived} {R : paper.role} {M Na Nb : paper.nonce} → derived_of file r ≡ Some x →
+      (y : Derived) × IsDerived file r y R M Na Nb → IsDerived file r x R M Na Nb
+  derived_told h (y, c) = rw (one_found c.found h) at c
+
+  pub derived_sound : (r : ℕ) {x : Derived} → r < rows_of file → derived_of file r ≡ Some x →
+      (R : paper.role) × (M : paper.nonce) × (Na : paper.nonce) × (Nb : paper.nonce) × IsDerived file r x R M Na Nb
   unfolding derived_of
   derived_sound r l h =
-      let x = (pair_of file r).first in
-      let k = (pair_of file r).second in
-      let b =
-      both6 (pair_of file r).is (prf_of file x).is (session_of file k).is (eqb (prf_of file x).first (session_of file k).third)
-      (eqb (prf_of file x).second (session_of file k).first) (eqb (prf_of file x).third (session_of file k).second) h
+      let (p, ep, hp) = and_then_some h in
+      let (f, ef, hf) = and_then_some hp in
+      let (s, es, hs) = and_then_some hf in
+      let b = both3 _ _ _ (then_some_true hs).0 in
+      let isp = pair_sound file P r l ep in
+      let isf = prf_sound file P p.0 isp.first.row ef in
+      let key =
+      session_key p.1 f.na f.nb f.secret isp.second.row es (sym (eqb-true _ _ b.1)) (sym (eqb-true _ _ b.2)) (sym (eqb-true _ _ b.0))
+      isf.na isf.nb isf.secret
       in
-      let p = pair_sound file P r l b.0 in
-      let f = prf_sound file P x p.first.row b.1 in
-      let s =
-      session_of_lem k (prf_of file x).second (prf_of file x).third (prf_of file x).first p.second.row b.2
-      (sym (eqb-true _ _ b.4)) (sym (eqb-true _ _ b.5)) (sym (eqb-true _ _ b.3)) f.second f.third f.first
-      in (
-        role_named (session_of file k).server,
-        as_nonce (message file (prf_of file x).first),
-        as_nonce (message file (prf_of file x).second),
-        as_nonce (message file (prf_of file x).third),
-        derived_complete r l (rw (p.whole, f.whole, s) refl),
-      )
+      (role_meant s.role, _, _, _, derived_told h (derived_complete r l (rw (isf.whole, key) at isp.whole)))
 
   pub verified_complete : (r : ℕ) {S : paper.agent} {Nb : paper.nonce} {B : paper.agent} {PMS : paper.nonce} → r < rows_of file →
       message file r ≡
       paper.Crypt (paper.pri_k S) (paper.Hash (paper.Pair (paper.Nonce Nb) (paper.Pair (paper.Agent B) (paper.Nonce PMS)))) →
-      IsVerified file r S Nb B PMS
+      (x : Verified) × IsVerified file r x S Nb B PMS
   unfolding verified_of
   verified_complete r l e =
-      let c = crypt_complete file P r l e in
-      let k = private_complete file P (crypt_of file r).first c.first.row c.first.meant in
-      let h = hash_complete file P (crypt_of file r).second c.second.row c.second.meant in
-      let i = (hash_of file (crypt_of file r).second).first in
-      let t = three_complete file P i h.first.row h.first.meant in
-      let nb = nonce_complete file P (three_of file i).first t.first.row t.first.meant in
-      let a = agent_complete file P (three_of file i).second t.second.row t.second.meant in
-      let n = nonce_complete file P (three_of file i).third t.third.row t.third.meant in
-      record {
-        flag = rw (c.flag, k.flag, h.flag, t.flag, nb, a.flag, n) refl;
-        whole = e;
-        signer = k.agent;
-        nb = t.first;
-        agent = a.agent;
-        secret = t.third;
-      }
+      let (c, isc) = crypt_complete file P r l e in
+      let k = private_complete file P c.key isc.key.row isc.key.meant in
+      let (h, ish) = hash_complete file P c.body isc.body.row isc.body.meant in
+      let (t, ist) = three_complete file P h ish.body.row ish.body.meant in
+      let nb = nonce_complete file P t.0 ist.first.row ist.first.meant in
+      let a = agent_complete file P t.1 ist.second.row ist.second.meant in
+      let n = nonce_complete file P t.2 ist.third.row ist.third.meant in (
+        _,
+        record {
+          found = rw (isc.found, k.found, ish.found, ist.found, a.found, nb, n) refl;
+          whole = e;
+          signer = refl;
+          nb = ist.first;
+          agent = refl;
+          secret = ist.third;
+        },
+      )
 
-  pub verified_sound : (r : ℕ) → r < rows_of file → (verified_of file r).is ≡ true →
-      (Nb : paper.nonce) × (PMS : paper.nonce) × IsVerified file r (verified_of file r).signer Nb (verified_of file r).agent PMS
+  verified_told : {r : ℕ} {x : Verified} {S : paper.agent} {Nb : paper.nonce} {B : paper.agent} {PMS : paper.nonce} →
+      verified_of file r ≡ Some x → (y : Verified) × IsVerified file r y S Nb B PMS → IsVerified file r x x.signer Nb x.agent PMS
+  verified_told h (y, c) = rw (← c.signer, ← c.agent, one_found c.found h) at c
+
+  pub verified_sound : (r : ℕ) {x : Verified} → r < rows_of file → verified_of file r ≡ Some x →
+      (Nb : paper.nonce) × (PMS : paper.nonce) × IsVerified file r x x.signer Nb x.agent PMS
   unfolding verified_of
   verified_sound r l e =
-      let i = (hash_of file (crypt_of file r).second).first in
-      let z =
-      both7 (crypt_of file r).is (private_of file (crypt_of file r).first).is (hash_of file (crypt_of file r).second).is
-      (three_of file i).is (is_nonce file (three_of file i).first) (agent_of file (three_of file i).second).is
-      (is_nonce file (three_of file i).third) e
-      in
-      let c = crypt_sound file P r l z.0 in
-      let k = private_sound file P (crypt_of file r).first c.first.row z.1 in
-      let h = hash_sound file P (crypt_of file r).second c.second.row z.2 in
-      let t = three_sound file P i h.first.row z.3 in
-      let nb = nonce_sound file P (three_of file i).first t.first.row z.4 in
-      let a = agent_sound file P (three_of file i).second t.second.row z.5 in
-      let n = nonce_sound file P (three_of file i).third t.third.row z.6 in
-      (nb.0, n.0, verified_complete r l (rw (c.whole, k.whole, h.whole, t.whole, nb.1, a.whole, n.1) refl))
+      let (c, ec, hc) = and_then_some e in
+      let (signer, es, hs) = and_then_some hc in
+      let (h, eh, hh) = and_then_some hs in
+      let (t, et, ht) = and_then_some hh in
+      let (a, ea, ha) = and_then_some ht in
+      let b = both _ _ (then_some_true ha).0 in
+      let isc = crypt_sound file P r l ec in
+      let isk = private_sound file P c.key isc.key.row es in
+      let ish = hash_sound file P c.body isc.body.row eh in
+      let ist = three_sound file P h ish.body.row et in
+      let isa = agent_sound file P t.1 ist.second.row ea in
+      let nb = nonce_sound file P t.0 ist.first.row b.0 in
+      let n = nonce_sound file P t.2 ist.third.row b.1 in
+      (nb.0, n.0, verified_told e (verified_complete r l (rw (isk.whole, ish.whole, ist.whole, isa.whole, nb.1, n.1) at isc.whole)))

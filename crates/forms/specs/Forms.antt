@@ -1,188 +1,120 @@
--- The shapes that the rules name, read from rows: a flag, and fields that mean nothing unless it is true.
-use Rattle.std.specs.Prelude.{ℕ, Bool, not, ◌&&◌, List, eqb}
+-- The shapes that the rules name, read from rows: their parts, or none.
+use Rattle.std.specs.Prelude.{ℕ, Bool, not, ◌&&◌, List, Option, Some, eqb}
+use Rattle.std.specs.Bool.{then_some}
 use Rattle.laws.specs.Choose.{choose}
+use Rattle.laws.specs.Options.{and_then, is_some_and}
 use Rattle.paper.specs.Message.{Authority}
-use Rattle.forms.specs.Flagged.{Three, Four, Hello, Reply, Kept, Signed, Remembered, Agreed, Sealed, Derived, Verified}
-use Rattle.forms.specs.Kinds.{agent_of, private_of, hash_of, pair_of, crypt_of, prf_of, session_of, is_number, is_nonce, is_key}
+use Rattle.forms.specs.Kinds.{server_in, agent_of, private_of, hash_of, pair_of, crypt_of, prf_of, session_of, is_number, is_nonce, is_key}
+use Rattle.forms.specs.declared.Hello.{Hello}
+use Rattle.forms.specs.declared.Reply.{Reply}
+use Rattle.forms.specs.declared.Kept.{Kept}
+use Rattle.forms.specs.declared.Signed.{Signed}
+use Rattle.forms.specs.declared.Remembered.{Remembered}
+use Rattle.forms.specs.declared.Agreed.{Agreed}
+use Rattle.forms.specs.declared.Sealed.{Sealed}
+use Rattle.forms.specs.declared.Derived.{Derived}
+use Rattle.forms.specs.declared.Verified.{Verified}
 
 -- Pair X (Pair Y Z).
-unfoldable pub three_of : List ℕ → ℕ → Three
+unfoldable pub three_of : List ℕ → ℕ → Option (ℕ × ℕ × ℕ)
 three_of file r =
-    let p = pair_of file r in
-    let q = pair_of file p.second in
-    record {
-      is = p.is && q.is;
-      first = p.first;
-      second = q.first;
-      third = q.second;
-    }
+    and_then (pair_of file r) (λ p.
+    and_then (pair_of file p.1) (λ q.
+    Some (p.0, q.0, q.1)))
 
 -- Pair W (Pair X (Pair Y Z)).
-unfoldable pub four_of : List ℕ → ℕ → Four
+unfoldable pub four_of : List ℕ → ℕ → Option (ℕ × ℕ × ℕ × ℕ)
 four_of file r =
-    let p = pair_of file r in
-    let t = three_of file p.second in
-    record {
-      is = p.is && t.is;
-      first = p.first;
-      second = t.first;
-      third = t.second;
-      fourth = t.third;
-    }
+    and_then (pair_of file r) (λ p.
+    and_then (three_of file p.1) (λ t.
+    Some (p.0, t.0, t.1, t.2)))
 
 -- {Agent A, Na, SID, Pa}: the agent by its number, and else rows.
-unfoldable pub hello_of : List ℕ → ℕ → Hello
+unfoldable pub hello_of : List ℕ → ℕ → Option Hello
 hello_of file r =
-    let f = four_of file r in
-    let a = agent_of file f.first in
-    let na = is_nonce file f.second in
-    let sid = is_number file f.third in
-    let pa = is_number file f.fourth in
-    record {
-      is = f.is && a.is && na && sid && pa;
-      agent = a.first;
-      na = f.second;
-      sid = f.third;
-      pa = f.fourth;
-    }
+    and_then (four_of file r) (λ f.
+    and_then (agent_of file f.0) (λ a.
+    then_some (is_nonce file f.1 && is_number file f.2 && is_number file f.3)
+    (record { agent = a; na = f.1; sid = f.2; pa = f.3 })))
 
 -- {Nb, SID, Pb}, by rows.
-unfoldable pub reply_of : List ℕ → ℕ → Reply
+unfoldable pub reply_of : List ℕ → ℕ → Option Reply
 reply_of file r =
-    let t = three_of file r in
-    let nb = is_nonce file t.first in
-    let sid = is_number file t.second in
-    let pb = is_number file t.third in
-    record {
-      is = t.is && nb && sid && pb;
-      nb = t.first;
-      sid = t.second;
-      pb = t.third;
-    }
+    and_then (three_of file r) (λ t.
+    then_some (is_nonce file t.0 && is_number file t.1 && is_number file t.2)
+    (record { nb = t.0; sid = t.1; pb = t.2 }))
 
 -- {Agent B, PMS}: the agent by its number, the secret by its row.
-unfoldable pub kept_of : List ℕ → ℕ → Kept
+unfoldable pub kept_of : List ℕ → ℕ → Option Kept
 kept_of file r =
-    let p = pair_of file r in
-    let a = agent_of file p.first in
-    let n = is_nonce file p.second in
-    record {
-      is = p.is && a.is && n;
-      agent = a.first;
-      secret = p.second;
-    }
+    and_then (pair_of file r) (λ p.
+    and_then (agent_of file p.0) (λ a.
+    then_some (is_nonce file p.1)
+    (record { agent = a; secret = p.1 })))
 
 -- {Agent B, K} under the authority's private key: the agent by its number, the key by its row.
-unfoldable pub signed_of : List ℕ → ℕ → Signed
+unfoldable pub signed_of : List ℕ → ℕ → Option Signed
 signed_of file r =
-    let c = crypt_of file r in
-    let k = private_of file c.first in
-    let p = pair_of file c.second in
-    let a = agent_of file p.first in
-    let n = is_key file p.second in
-    record {
-      is = c.is && k.is && eqb k.first Authority && p.is && a.is && n;
-      agent = a.first;
-      key = p.second;
-    }
+    and_then (crypt_of file r) (λ c.
+    and_then (private_of file c.key) (λ signer.
+    and_then (pair_of file c.body) (λ p.
+    and_then (agent_of file p.0) (λ a.
+    then_some (eqb signer Authority && is_key file p.1)
+    (record { agent = a; key = p.1 })))))
 
 -- {SID, Agent A, Agent B, M}: the agents by their numbers, and else rows.
-unfoldable pub remembered_of : List ℕ → ℕ → Remembered
+unfoldable pub remembered_of : List ℕ → ℕ → Option Remembered
 remembered_of file r =
-    let f = four_of file r in
-    let sid = is_number file f.first in
-    let a = agent_of file f.second in
-    let b = agent_of file f.third in
-    let m = is_nonce file f.fourth in
-    record {
-      is = f.is && sid && a.is && b.is && m;
-      sid = f.first;
-      a = a.first;
-      b = b.first;
-      m = f.fourth;
-    }
+    and_then (four_of file r) (λ f.
+    and_then (agent_of file f.1) (λ a.
+    and_then (agent_of file f.2) (λ b.
+    then_some (is_number file f.0 && is_nonce file f.3)
+    (record { sid = f.0; a = a; b = b; m = f.3 }))))
 
 -- Hash {SID, M, Na, Pa, Agent A, Nb, Pb, Agent B}: the agents by their numbers, and else rows.
-unfoldable pub agreement_of : List ℕ → ℕ → Agreed
+unfoldable pub agreement_of : List ℕ → ℕ → Option Agreed
 agreement_of file r =
-    let h = hash_of file r in
-    let f = four_of file h.first in
-    let p = pair_of file f.fourth in
-    let g = four_of file p.second in
-    let sid = is_number file f.first in
-    let m = is_nonce file f.second in
-    let na = is_nonce file f.third in
-    let pa = is_number file p.first in
-    let a = agent_of file g.first in
-    let nb = is_nonce file g.second in
-    let pb = is_number file g.third in
-    let b = agent_of file g.fourth in
-    record {
-      is = h.is && f.is && p.is && g.is && sid && m && na && pa && a.is && nb && pb && b.is;
-      sid = f.first;
-      m = f.second;
-      na = f.third;
-      pa = p.first;
-      a = a.first;
-      nb = g.second;
-      pb = g.third;
-      b = b.first;
-    }
+    and_then (hash_of file r) (λ h.
+    and_then (four_of file h) (λ f.
+    and_then (pair_of file f.3) (λ p.
+    and_then (four_of file p.1) (λ g.
+    and_then (agent_of file g.0) (λ a.
+    and_then (agent_of file g.3) (λ b.
+    then_some (is_number file f.0 && is_nonce file f.1 && is_nonce file f.2 && is_number file p.0 && is_nonce file g.1 && is_number file g.2)
+    (record { sid = f.0; m = f.1; na = f.2; pa = p.0; a = a; nb = g.1; pb = g.2; b = b })))))))
 
 -- That hash under a session key of the same Na, Nb and M; `hash` is its row.
-unfoldable pub sealed_of : List ℕ → ℕ → Sealed
+unfoldable pub sealed_of : List ℕ → ℕ → Option Sealed
 sealed_of file r =
-    let c = crypt_of file r in
-    let s = session_of file c.first in
-    let g = agreement_of file c.second in
-    record {
-      is = c.is && s.is && g.is && eqb s.first g.na && eqb s.second g.nb && eqb s.third g.m;
-      server = s.server;
-      hash = c.second;
-      sid = g.sid;
-      m = g.m;
-      na = g.na;
-      pa = g.pa;
-      a = g.a;
-      nb = g.nb;
-      pb = g.pb;
-      b = g.b;
-    }
+    and_then (crypt_of file r) (λ c.
+    and_then (session_of file c.key) (λ s.
+    and_then (agreement_of file c.body) (λ g.
+    then_some (eqb s.na g.na && eqb s.nb g.nb && eqb s.m g.m)
+    (record { role = s.role; hash = c.body; sid = g.sid; m = g.m; na = g.na; pa = g.pa; a = g.a; nb = g.nb; pb = g.pb; b = g.b }))))
 
 -- row r is a Crypt under a session key of that side
 abbrev pub under_key : List ℕ → ℕ → Bool → Bool
 under_key file r server =
-    let c = crypt_of file r in
-    let s = session_of file c.first in
-    c.is && s.is && choose server s.server (not s.server)
+    is_some_and (crypt_of file r) (λ c.
+    is_some_and (session_of file c.key) (λ s.
+    choose server (server_in s.role) (not (server_in s.role))))
 
 -- {PRF(M, Na, Nb), a session key of the same Na, Nb and M}, of either role.
-unfoldable pub derived_of : List ℕ → ℕ → Derived
+unfoldable pub derived_of : List ℕ → ℕ → Option Derived
 derived_of file r =
-    let p = pair_of file r in
-    let f = prf_of file p.first in
-    let s = session_of file p.second in
-    record {
-      is = p.is && f.is && s.is && eqb f.first s.third && eqb f.second s.first && eqb f.third s.second;
-      m = f.first;
-      na = f.second;
-      nb = f.third;
-    }
+    and_then (pair_of file r) (λ p.
+    and_then (prf_of file p.0) (λ f.
+    and_then (session_of file p.1) (λ s.
+    then_some (eqb f.secret s.m && eqb f.na s.na && eqb f.nb s.nb)
+    (record { m = f.secret; na = f.na; nb = f.nb }))))
 
 -- Hash {Nb, Agent B, PMS} under a private key: signer and agent by their numbers, and else rows.
-unfoldable pub verified_of : List ℕ → ℕ → Verified
+unfoldable pub verified_of : List ℕ → ℕ → Option Verified
 verified_of file r =
-    let c = crypt_of file r in
-    let k = private_of file c.first in
-    let h = hash_of file c.second in
-    let t = three_of file h.first in
-    let nb = is_nonce file t.first in
-    let a = agent_of file t.second in
-    let n = is_nonce file t.third in
-    record {
-      is = c.is && k.is && h.is && t.is && nb && a.is && n;
-      signer = k.first;
-      nb = t.first;
-      agent = a.first;
-      secret = t.third;
-    }
+    and_then (crypt_of file r) (λ c.
+    and_then (private_of file c.key) (λ signer.
+    and_then (hash_of file c.body) (λ h.
+    and_then (three_of file h) (λ t.
+    and_then (agent_of file t.1) (λ a.
+    then_some (is_nonce file t.0 && is_nonce file t.2)
+    (record { signer = signer; nb = t.0; agent = a; secret = t.2 }))))))

@@ -1,7 +1,6 @@
 // One row by its kind: its parts, or None if it is of another.
 ghost use Rattle.std.specs.Prelude.{◌≡◌};
 ghost use Rattle.forms.specs.Kinds.{agent_of, public_of, private_of, hash_of, pair_of, crypt_of, prf_of, session_of, is_number, is_nonce, is_plain, is_key};
-ghost use Rattle.forms.specs.Parts.{one, two, crypt, prf, session};
 
 use trace::{Role, Row, RowNo};
 
@@ -29,7 +28,7 @@ pub struct Session {
 // An agent's number.
 #[tactic(auto, unfolding(crate::specs::Kinds::agent_of))]
 pub fn agent_of(file: &[u8], r: u16) -> Option<u16>
-    ensures { result ≡ one (agent_of file.now r) }
+    ensures { result ≡ agent_of file.now r }
 {
     match trace::row_at(file, RowNo(r)) {
         Row::Agent(a) => Some(a.0),
@@ -40,7 +39,7 @@ pub fn agent_of(file: &[u8], r: u16) -> Option<u16>
 // The agent of a public key.
 #[tactic(auto, unfolding(crate::specs::Kinds::public_of))]
 pub fn public_of(file: &[u8], r: u16) -> Option<u16>
-    ensures { result ≡ one (public_of file.now r) }
+    ensures { result ≡ public_of file.now r }
 {
     match trace::row_at(file, RowNo(r)) {
         Row::PublicKey(a) => Some(a.0),
@@ -51,7 +50,7 @@ pub fn public_of(file: &[u8], r: u16) -> Option<u16>
 // The agent of a private key.
 #[tactic(auto, unfolding(crate::specs::Kinds::private_of))]
 pub fn private_of(file: &[u8], r: u16) -> Option<u16>
-    ensures { result ≡ one (private_of file.now r) }
+    ensures { result ≡ private_of file.now r }
 {
     match trace::row_at(file, RowNo(r)) {
         Row::PrivateKey(a) => Some(a.0),
@@ -62,7 +61,7 @@ pub fn private_of(file: &[u8], r: u16) -> Option<u16>
 // The row that is hashed.
 #[tactic(auto, unfolding(crate::specs::Kinds::hash_of))]
 pub fn hash_of(file: &[u8], r: u16) -> Option<u16>
-    ensures { result ≡ one (hash_of file.now r) }
+    ensures { result ≡ hash_of file.now r }
 {
     match trace::row_at(file, RowNo(r)) {
         Row::Hash(x) => Some(x.0),
@@ -73,7 +72,7 @@ pub fn hash_of(file: &[u8], r: u16) -> Option<u16>
 // Both sides of a pair.
 #[tactic(auto, unfolding(crate::specs::Kinds::pair_of))]
 pub fn pair_of(file: &[u8], r: u16) -> Option<(u16, u16)>
-    ensures { result ≡ two (pair_of file.now r) }
+    ensures { result ≡ pair_of file.now r }
 {
     match trace::row_at(file, RowNo(r)) {
         Row::Pair(x, y) => Some((x.0, y.0)),
@@ -83,7 +82,7 @@ pub fn pair_of(file: &[u8], r: u16) -> Option<(u16, u16)>
 
 #[tactic(auto, unfolding(crate::specs::Kinds::crypt_of))]
 pub fn crypt_of(file: &[u8], r: u16) -> Option<Crypt>
-    ensures { result ≡ crypt (crypt_of file.now r) }
+    ensures { result ≡ crypt_of file.now r }
 {
     match trace::row_at(file, RowNo(r)) {
         Row::Crypt(key, body) => Some(Crypt {
@@ -96,7 +95,7 @@ pub fn crypt_of(file: &[u8], r: u16) -> Option<Crypt>
 
 #[tactic(auto, unfolding(crate::specs::Kinds::prf_of))]
 pub fn prf_of(file: &[u8], r: u16) -> Option<Prf>
-    ensures { result ≡ prf (prf_of file.now r) }
+    ensures { result ≡ prf_of file.now r }
 {
     match trace::row_at(file, RowNo(r)) {
         Row::Prf(secret, na, nb) => Some(Prf {
@@ -110,7 +109,7 @@ pub fn prf_of(file: &[u8], r: u16) -> Option<Prf>
 
 #[tactic(auto, unfolding(crate::specs::Kinds::session_of))]
 pub fn session_of(file: &[u8], r: u16) -> Option<Session>
-    ensures { result ≡ session (session_of file.now r) }
+    ensures { result ≡ session_of file.now r }
 {
     match trace::row_at(file, RowNo(r)) {
         Row::SessionKey(role, na, nb, m) => Some(Session {

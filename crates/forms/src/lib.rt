@@ -7,7 +7,6 @@ pub mod leaves;
 ghost use Rattle.std.specs.Prelude.{◌≡◌};
 ghost use Rattle.forms.specs.Kinds.{server_in};
 ghost use Rattle.forms.specs.Forms.{hello_of, reply_of, kept_of, signed_of, remembered_of, agreement_of, sealed_of, under_key, derived_of, verified_of};
-ghost use Rattle.forms.specs.Parts.{hello, reply, kept, signed, remembered, agreed, sealed, derived, verified};
 
 use trace::Role;
 
@@ -93,7 +92,7 @@ pub struct Verified {
 // {Agent A, Na, SID, Pa}: the agent by its number, and else rows.
 #[tactic(auto, unfolding(crate::specs::Forms::hello_of))]
 pub fn client_hello(file: &[u8], r: u16) -> Option<Hello>
-    ensures { result ≡ hello (hello_of file.now r) }
+    ensures { result ≡ hello_of file.now r }
 {
     let (agent, na, sid, pa) = chains::four_of(file, r)?;
     let agent = leaves::agent_of(file, agent)?;
@@ -106,7 +105,7 @@ pub fn client_hello(file: &[u8], r: u16) -> Option<Hello>
 // {Nb, SID, Pb}, by rows.
 #[tactic(auto, unfolding(crate::specs::Forms::reply_of))]
 pub fn server_hello(file: &[u8], r: u16) -> Option<Reply>
-    ensures { result ≡ reply (reply_of file.now r) }
+    ensures { result ≡ reply_of file.now r }
 {
     let (nb, sid, pb) = chains::three_of(file, r)?;
     let fits = leaves::is_nonce(file, nb)
@@ -118,7 +117,7 @@ pub fn server_hello(file: &[u8], r: u16) -> Option<Reply>
 // {Agent B, PMS}: the agent by its number, the secret by its row.
 #[tactic(auto, unfolding(crate::specs::Forms::kept_of))]
 pub fn secret_note(file: &[u8], r: u16) -> Option<Kept>
-    ensures { result ≡ kept (kept_of file.now r) }
+    ensures { result ≡ kept_of file.now r }
 {
     let (agent, secret) = leaves::pair_of(file, r)?;
     let agent = leaves::agent_of(file, agent)?;
@@ -129,7 +128,7 @@ pub fn secret_note(file: &[u8], r: u16) -> Option<Kept>
 // {Agent B, K} under the authority's private key: the agent by its number, the key by its row.
 #[tactic(auto, unfolding(crate::specs::Forms::signed_of))]
 pub fn certificate(file: &[u8], r: u16) -> Option<Signed>
-    ensures { result ≡ signed (signed_of file.now r) }
+    ensures { result ≡ signed_of file.now r }
 {
     let c = leaves::crypt_of(file, r)?;
     let signer = leaves::private_of(file, c.key)?;
@@ -142,7 +141,7 @@ pub fn certificate(file: &[u8], r: u16) -> Option<Signed>
 // {SID, Agent A, Agent B, M}: the agents by their numbers, and else rows.
 #[tactic(auto, unfolding(crate::specs::Forms::remembered_of))]
 pub fn session_note(file: &[u8], r: u16) -> Option<Remembered>
-    ensures { result ≡ remembered (remembered_of file.now r) }
+    ensures { result ≡ remembered_of file.now r }
 {
     let (sid, a, b, m) = chains::four_of(file, r)?;
     let a = leaves::agent_of(file, a)?;
@@ -154,7 +153,7 @@ pub fn session_note(file: &[u8], r: u16) -> Option<Remembered>
 // Hash {SID, M, Na, Pa, Agent A, Nb, Pb, Agent B}: the agents by their numbers, and else rows.
 #[tactic(auto, unfolding(crate::specs::Forms::agreement_of))]
 pub fn agreement(file: &[u8], r: u16) -> Option<Agreed>
-    ensures { result ≡ agreed (agreement_of file.now r) }
+    ensures { result ≡ agreement_of file.now r }
 {
     let h = leaves::hash_of(file, r)?;
     let (sid, m, na, rest) = chains::four_of(file, h)?;
@@ -183,7 +182,7 @@ pub fn agreement(file: &[u8], r: u16) -> Option<Agreed>
 // That hash under a session key of the same Na, Nb and M; `hash` is its row.
 #[tactic(auto, unfolding(crate::specs::Forms::sealed_of))]
 pub fn finished(file: &[u8], r: u16) -> Option<Sealed>
-    ensures { result ≡ sealed (sealed_of file.now r) }
+    ensures { result ≡ sealed_of file.now r }
 {
     let c = leaves::crypt_of(file, r)?;
     let s = leaves::session_of(file, c.key)?;
@@ -219,7 +218,7 @@ pub fn under_key(file: &[u8], r: u16, role: Role) -> bool
 // {PRF(M, Na, Nb), a session key of the same Na, Nb and M}, of either role.
 #[tactic(auto, unfolding(crate::specs::Forms::derived_of))]
 pub fn spy_keys(file: &[u8], r: u16) -> Option<Derived>
-    ensures { result ≡ derived (derived_of file.now r) }
+    ensures { result ≡ derived_of file.now r }
 {
     let (f, s) = leaves::pair_of(file, r)?;
     let f = leaves::prf_of(file, f)?;
@@ -235,7 +234,7 @@ pub fn spy_keys(file: &[u8], r: u16) -> Option<Derived>
 // Hash {Nb, Agent B, PMS} under a private key: signer and agent by their numbers, and else rows.
 #[tactic(auto, unfolding(crate::specs::Forms::verified_of))]
 pub fn cert_verify(file: &[u8], r: u16) -> Option<Verified>
-    ensures { result ≡ verified (verified_of file.now r) }
+    ensures { result ≡ verified_of file.now r }
 {
     let c = leaves::crypt_of(file, r)?;
     let signer = leaves::private_of(file, c.key)?;

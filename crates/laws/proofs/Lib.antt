@@ -1,3 +1,4 @@
 pub mod First
 pub mod Both
 pub mod Zeros
+pub mod Options
