@@ -1,7 +1,7 @@
 -- The three questions over C's numbers: each is the library's question, and its number is the reply's.
-use Rattle.std.specs.Prelude.{ℕ, ◌<◌, List, ◌≡◌}
+use Rattle.std.specs.Prelude.{ℕ, ◌<◌, List, ◌≡◌, Result, ⊤}
 use Rattle.trace.specs.declared.Span.{Span}
-use Rattle.spy.specs.declared.Answer.{Answer}
+use Rattle.trace.specs.declared.Cause.{Cause}
 use Rattle.spy.specs.Knowledge.{Knows}
 use Rattle.judge.specs.declared.reply.Verdict.{Verdict}
 use Rattle.judge.specs.Judged.{Judged}
@@ -9,12 +9,12 @@ use Rattle.judge.specs.Faulted.{Faulted}
 use Rattle.cabi.specs.Codes.{half, verdict_code, answer_code, span_code, SmallVerdict, SmallAnswer}
 
 pub record VerdictCoded (file before : List ℕ) (code : ℕ) (after : List ℕ) : Type 0 where
-  pub verdict : Verdict
+  pub verdict : Result Verdict Cause
   pub judged : Judged file before verdict after
   pub coded : code ≡ verdict_code verdict
 
 pub record AnswerCoded (file : List ℕ) (n : ℕ) (before : List ℕ) (code : ℕ) (after : List ℕ) : Type 0 where
-  pub answer : Answer
+  pub answer : Result ⊤ Cause
   pub knows : Knows file n before answer after
   pub coded : code ≡ answer_code answer
 
@@ -33,8 +33,8 @@ pub record OneCode : Type 0 where
 
 -- the replies to files are small enough for their numbers to tell them
 pub record RepliesSmall : Type 0 where
-  pub verdict : (file before : List ℕ) (v : Verdict) (after : List ℕ) → Judged file before v after → SmallVerdict v
-  pub answer : (file : List ℕ) (n : ℕ) (before : List ℕ) (a : Answer) (after : List ℕ) → Knows file n before a after → SmallAnswer a
+  pub verdict : (file before : List ℕ) (v : Result Verdict Cause) (after : List ℕ) → Judged file before v after → SmallVerdict v
+  pub answer : (file : List ℕ) (n : ℕ) (before : List ℕ) (a : Result ⊤ Cause) (after : List ℕ) → Knows file n before a after → SmallAnswer a
   pub fault : (file : List ℕ) (s : Span) → Faulted file s → s.start < half
 
 -- so a returned number tells its reply, whatever was asked

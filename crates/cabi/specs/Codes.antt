@@ -1,11 +1,10 @@
 -- The replies as one number each. A refusal, an illegal trace and an accepted one lie apart, and no place or length reaches 65,536.
-use Rattle.std.specs.Prelude.{ℕ, ◌+◌, ◌*◌, ◌<◌, ◌≡◌}
+use Rattle.std.specs.Prelude.{ℕ, ◌+◌, ◌*◌, ◌<◌, ◌≡◌, Result, Ok, Err, ⊤}
 use Rattle.trace.specs.Refusal.{number_of, place_of}
 use Rattle.trace.specs.declared.Span.{Span}
 use Rattle.trace.specs.declared.Cause.{Cause}
-use Rattle.spy.specs.declared.Answer as spy
 use Rattle.judge.specs.declared.reply.Verdict.{Verdict}
-use Rattle.judge.specs.declared.reply.Verdict.TheVariants.{Refused, Illegal, Accepted}
+use Rattle.judge.specs.declared.reply.Verdict.TheVariants.{Illegal, Accepted}
 
 abbrev pub half : ℕ
 half = 65536
@@ -13,30 +12,30 @@ half = 65536
 abbrev pub refusal_code : Cause → ℕ
 refusal_code c = 536870912 + half * number_of c + place_of c
 
-abbrev pub verdict_code : Verdict → ℕ
-verdict_code (Refused c) = refusal_code c
-verdict_code (Illegal n) = 268435456 + n
-verdict_code (Accepted n) = n
+abbrev pub verdict_code : Result Verdict Cause → ℕ
+verdict_code (Err c) = refusal_code c
+verdict_code (Ok (Illegal n)) = 268435456 + n
+verdict_code (Ok (Accepted n)) = n
 
-abbrev pub answer_code : spy.Answer → ℕ
-answer_code (spy.TheVariants.Refused c) = refusal_code c
-answer_code spy.TheVariants.Written = 0
+abbrev pub answer_code : Result ⊤ Cause → ℕ
+answer_code (Err c) = refusal_code c
+answer_code (Ok _) = 0
 
 abbrev pub span_code : Span → ℕ
 span_code s = s.start + half * s.size
 
 -- places and lengths that fit a half
-abbrev pub SmallVerdict : Verdict → Type 0
-SmallVerdict (Refused c) = place_of c < half
-SmallVerdict (Illegal n) = n < half
-SmallVerdict (Accepted n) = n < half
+abbrev pub SmallVerdict : Result Verdict Cause → Type 0
+SmallVerdict (Err c) = place_of c < half
+SmallVerdict (Ok (Illegal n)) = n < half
+SmallVerdict (Ok (Accepted n)) = n < half
 
-abbrev pub SmallAnswer : spy.Answer → Type 0
-SmallAnswer (spy.TheVariants.Refused c) = place_of c < half
-SmallAnswer spy.TheVariants.Written = 0 < half
+abbrev pub SmallAnswer : Result ⊤ Cause → Type 0
+SmallAnswer (Err c) = place_of c < half
+SmallAnswer (Ok _) = 0 < half
 
 -- nothing is lost: the number tells the reply
 pub record CodesTell : Type 0 where
-  pub verdict : (v w : Verdict) → SmallVerdict v → SmallVerdict w → verdict_code v ≡ verdict_code w → v ≡ w
-  pub answer : (a b : spy.Answer) → SmallAnswer a → SmallAnswer b → answer_code a ≡ answer_code b → a ≡ b
+  pub verdict : (v w : Result Verdict Cause) → SmallVerdict v → SmallVerdict w → verdict_code v ≡ verdict_code w → v ≡ w
+  pub answer : (a b : Result ⊤ Cause) → SmallAnswer a → SmallAnswer b → answer_code a ≡ answer_code b → a ≡ b
   pub span : (s t : Span) → s.start < half → t.start < half → span_code s ≡ span_code t → s ≡ t

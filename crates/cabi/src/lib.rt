@@ -6,7 +6,6 @@ ghost use Rattle.cabi.specs.Codes.{refusal_code, verdict_code, answer_code};
 ghost use Rattle.cabi.specs.Coded.{VerdictCoded, AnswerCoded, FaultCoded};
 
 use judge::reply::Verdict;
-use spy::Answer;
 use trace::Cause;
 
 const HALF: u32 = 0x10000;
@@ -21,22 +20,22 @@ fn refusal_code(cause: Cause) -> u32
     REFUSED + HALF * (trace::number(cause) as u32) + (trace::place(cause) as u32)
 }
 
-fn verdict_code(verdict: Verdict) -> u32
+fn verdict_code(verdict: Result<Verdict, Cause>) -> u32
     ensures { result ≡ verdict_code verdict }
 {
     match verdict {
-        Verdict::Refused(cause) => refusal_code(cause),
-        Verdict::Illegal(n) => ILLEGAL + (n as u32),
-        Verdict::Accepted(n) => n as u32,
+        Err(cause) => refusal_code(cause),
+        Ok(Verdict::Illegal(n)) => ILLEGAL + (n as u32),
+        Ok(Verdict::Accepted(n)) => n as u32,
     }
 }
 
-fn answer_code(answer: Answer) -> u32
+fn answer_code(answer: Result<(), Cause>) -> u32
     ensures { result ≡ answer_code answer }
 {
     match answer {
-        Answer::Refused(cause) => refusal_code(cause),
-        Answer::Written => 0,
+        Err(cause) => refusal_code(cause),
+        Ok(()) => 0,
     }
 }
 
@@ -55,6 +54,7 @@ pub fn mz_knowledge(file: &[u8], n: usize, marks: &mut [u8]) -> u32
 }
 
 // Where the part at fault lies.
+#[tactic(auto, using(judge::proofs::Faults::faulted_inside))]
 pub fn mz_fault(file: &[u8]) -> u32
     ensures { FaultCoded file.now result }
 {

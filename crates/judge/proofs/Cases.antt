@@ -2,17 +2,16 @@
 -- Assumes nothing.
 use mathlib.Core.List.{List}
 use mathlib.Core.Path.{◌≡◌, refl}
+use Rattle.std.specs.Prelude.{Ok}
 use Rattle.trace.specs.File.{word, rows_of, events_of}
 use Rattle.trace.specs.Kinds.{row_of}
 use Rattle.trace.specs.Tests.{line_of}
 use Rattle.trace.specs.Reading.{reading, read_items}
 use Rattle.trace.specs.Sample.{over}
 use Rattle.laws.specs.First.{first, any}
-use Rattle.trace.specs.declared.Reading.TheVariants.{Readable}
 use Rattle.closure.specs.Closure.{learn_row, up_rows, down_rows, pass_rows, settle, start_keys, start_rows, known_after}
 use Rattle.spy.specs.Made.{write_marks}
 use Rattle.spy.specs.Reply.{answer_readable, bytes_readable}
-use Rattle.spy.specs.declared.Answer.TheVariants.{Written}
 use Rattle.spy.proofs.Knows.{knows_readable}
 use Rattle.used.specs.Marking.{use_row, used_after}
 use Rattle.forms.specs.Kinds.{agent_of, public_of, private_of, hash_of, pair_of, crypt_of, prf_of, session_of, is_number, is_nonce, is_plain, is_key}
@@ -30,9 +29,9 @@ use Rattle.judge.proofs.Judges.{judged_readable}
 -- what is computed for a case
 abbrev pub Computed : Case → Type 0
 Computed (verdict file v rules) =
-    (reading file ≡ Readable) × (verdict_readable file (buffer (events_of file)) ≡ v) × (rules_readable file (buffer (events_of file)) ≡ rules)
+    (reading file ≡ Ok tt) × (verdict_readable file (buffer (events_of file)) ≡ Ok v) × (rules_readable file (buffer (events_of file)) ≡ rules)
 Computed (knowledge file n marks) =
-    (reading file ≡ Readable) × (answer_readable file n (buffer (rows_of file)) ≡ Written) × (bytes_readable file n (buffer (rows_of file)) ≡ marks)
+    (reading file ≡ Ok tt) × (answer_readable file n (buffer (rows_of file)) ≡ Ok tt) × (bytes_readable file n (buffer (rows_of file)) ≡ marks)
 
 pub holds : (c : Case) → Computed c → Holds c
 holds (verdict file v rules) (r, a, b) = rw (← a, ← b) (judged_readable file (buffer (events_of file)) r)

@@ -9,6 +9,7 @@ use lib.Dec.{ltb}
 use lib.ListN.{length}
 use denote.Ref.{Bor}
 use borrow.Author.Tests.{lt-ltb, le-ltb}
+use Rattle.std.specs.Prelude.{Ok, Err}
 use Rattle.trace.specs.File.{event_limit, events_of}
 use Rattle.laws.specs.Choose.{choose}
 use Rattle.trace.specs.Refusal as table
@@ -19,7 +20,6 @@ use Rattle.trace.specs.Spans.{event_span, fault_of, within, Inside}
 use Rattle.trace.specs.declared.Span.{Span}
 use Rattle.trace.specs.declared.Cause.{Cause}
 use Rattle.trace.specs.declared.Cause.TheVariants.{WrongContents}
-use Rattle.trace.specs.declared.Reading.TheVariants.{Refused, Readable}
 use Rattle.trace.proofs.Told.{told_read, told_readable, same_cause}
 use Rattle.trace.proofs.Fault as fault
 use Rattle.trace.proofs.Fault.{Fault, told_fault, inside_within, nothing_inside, row_inside, event_inside, event_eight}
@@ -32,22 +32,22 @@ use Rattle.judge.proofs.Walk.{Ended}
 use Rattle.judge.proofs.Judges.{walk_ended}
 use Rattle.judge.proofs.One.{longest_one}
 
-fault_told : (file : List ℕ) {c : Cause} → Fault file c → Told file (Refused c) → Faulted file (fault_of file c)
+fault_told : (file : List ℕ) {c : Cause} → Fault file c → Told file (Err c) → Faulted file (fault_of file c)
 fault_told file (fault.none l e) t = rw e (refused t l)
 fault_told file (fault.row e i) t = rw e (row t)
 fault_told file (fault.repeated e i) t = rw e (repeated t)
 fault_told file (fault.event e i) t = rw e (event t)
 
-pub faulted_refused : (file : List ℕ) {c : Cause} → reading file ≡ Refused c → Faulted file (fault_of file c)
+pub faulted_refused : (file : List ℕ) {c : Cause} → reading file ≡ Err c → Faulted file (fault_of file c)
 faulted_refused file {c} e =
     let t = told_read file e in
     fault_told file (told_fault file c t) t
 
-right_contents : (file : List ℕ) → Told file Readable → ¬ Wrong file WrongContents
+right_contents : (file : List ℕ) → Told file (Ok tt) → ¬ Wrong file WrongContents
 right_contents file (table.readable none) = none WrongContents
 
-module _ (file : List ℕ) (r : reading file ≡ Readable) where
-  told : Told file Readable
+module _ (file : List ℕ) (r : reading file ≡ Ok tt) where
+  told : Told file (Ok tt)
   told = told_read file r
 
   module _ (bytes : List ℕ) (room : events_of file ≤ length bytes) where
@@ -103,8 +103,8 @@ by_length file n = choose (ltb n (events_of file)) (event_part file n) nothing
 
 abbrev Fixed : List ℕ → Span → Type 0
 Fixed file s =
-    ((c : Cause) × Told file (Refused c) × (s ≡ by_cause file c)) ⊎
-    (Told file Readable × ((n : ℕ) × Longest file n × (s ≡ by_length file n)))
+    ((c : Cause) × Told file (Err c) × (s ≡ by_cause file c)) ⊎
+    (Told file (Ok tt) × ((n : ℕ) × Longest file n × (s ≡ by_length file n)))
 
 fixed : (file : List ℕ) {s : Span} → Faulted file s → Fixed file s
 fixed file (row t) = inl (_, t, refl)

@@ -7,13 +7,14 @@ use mathlib.Core.List.{List}
 use mathlib.Core.Logic.{inl, inr}
 use mathlib.Core.Path.{◌≡◌, refl, sym, ◌∙◌, ap}
 use lib.ListN.{get_or}
+use Rattle.std.specs.Prelude.{Result, Ok, Err}
 use Rattle.trace.specs.File.{events_of}
 use Rattle.trace.proofs.Causes.{number_range}
-use Rattle.spy.specs.declared.Answer.TheVariants.{Written}
+use Rattle.trace.specs.declared.Cause.{Cause}
 use Rattle.spy.specs.Knowledge.{Knows, written, answer_number}
 use Rattle.spy.proofs.Knows.{one_answer}
 use Rattle.judge.specs.declared.reply.Verdict.{Verdict}
-use Rattle.judge.specs.declared.reply.Verdict.TheVariants.{Refused, Illegal, Accepted}
+use Rattle.judge.specs.declared.reply.Verdict.TheVariants.{Illegal, Accepted}
 use Rattle.judge.specs.Judged.{Fits, RuleAt, lowest, note, message, Longest, Judged, illegal, verdict_number}
 use Rattle.judge.specs.Cases.{Holds, P1, P3, P5, P8, All, also, marked_cases}
 use Rattle.judge.specs.Idle.{Asked, AskedAfter, Judge, Meets, Idle, refuses, accepts, silent, first, invents, IdleShutOut}
@@ -35,10 +36,10 @@ p8 : All Holds marked_cases → Holds P8
 p8 (also _ (also _ (also _ (also _ (also _ (also _ (also _ (also _ (also h _))))))))) = h
 
 -- a file that is not refused is asked about, and a first event below 6 has its own rule
-asked : {file before after : List ℕ} {v : Verdict} → Judged file before v after → verdict_number v ≡ 0 → Asked file before
+asked : {file before after : List ℕ} {v : Result Verdict Cause} → Judged file before v after → verdict_number v ≡ 0 → Asked file before
 asked j e = let w = view j e in (w.told, w.room)
 
-asked_after : {file before after : List ℕ} {n : ℕ} → Knows file n before Written after → AskedAfter file n before
+asked_after : {file before after : List ℕ} {n : ℕ} → Knows file n before (Ok tt) after → AskedAfter file n before
 asked_after (written t room l m) = (t, room, l)
 
 fits_alone : {file : List ℕ} {i k : ℕ} → RuleAt file i k → i ≡ 0 → k < 6 → Fits file i k
@@ -46,25 +47,25 @@ fits_alone (lowest f _ _) z l = f
 fits_alone (note x) z l = absurd (omega arith)
 fits_alone (message x) z l = absurd (omega arith)
 
-first_fits : {file before after : List ℕ} {n : ℕ} → Judged file before (Illegal n) after → 0 < n → get_or after 0 0 < 6 →
+first_fits : {file before after : List ℕ} {n : ℕ} → Judged file before (Ok (Illegal n)) after → 0 < n → get_or after 0 0 < 6 →
     Fits file 0 (get_or after 0 0)
 first_fits (illegal _ _ _ _ b) p l = fits_alone (b.rules 0 p) refl l
 
 -- an illegal file has an event at fault
-has_events : {file before after : List ℕ} {n : ℕ} → Judged file before (Illegal n) after → 0 < events_of file
+has_events : {file before after : List ℕ} {n : ℕ} → Judged file before (Ok (Illegal n)) after → 0 < events_of file
 has_events (illegal _ _ _ l _) = omega arith
 
-longest : {file before after : List ℕ} {n : ℕ} → Judged file before (Illegal n) after → Longest file n
+longest : {file before after : List ℕ} {n : ℕ} → Judged file before (Ok (Illegal n)) after → Longest file n
 longest (illegal _ _ g _ _) = g
 
-abbrev size : Verdict → ℕ
-size (Refused c) = 0
-size (Illegal n) = 1
-size (Accepted n) = 2
+abbrev size : Result Verdict Cause → ℕ
+size (Err c) = 0
+size (Ok (Illegal n)) = 1
+size (Ok (Accepted n)) = 2
 
 -- two verdicts of one file are one
 module _ (J : Judge) (m : Meets J) where
-  same : (file before : List ℕ) {v : Verdict} {after : List ℕ} → Judged file before v after → J.verdict file before ≡ v
+  same : (file before : List ℕ) {v : Result Verdict Cause} {after : List ℕ} → Judged file before v after → J.verdict file before ≡ v
   same file before j = (one_verdict file before _ _ _ _ (m.judged file before) j).0
 
   shut_out : Idle J → ⊥

@@ -9,11 +9,11 @@ use native.Mathlib.Decide.{dec_lt}
 use lib.ListN.{length, get_or, set}
 use lib.Seq.{get_or-set_same, get_or-set_other}
 use borrow.Author.Tests.{lt-ltb, le-ltb}
+use Rattle.std.specs.Prelude.{Ok, Err}
 use Rattle.trace.specs.File.{event_limit, events_of}
 use Rattle.trace.specs.Refusal.{Told}
 use Rattle.trace.specs.Reading.{reading}
 use Rattle.trace.specs.declared.Cause.{Cause}
-use Rattle.trace.specs.declared.Reading as declared
 use Rattle.laws.proofs.First.{lt_suc}
 use Rattle.trace.proofs.Told.{told_read}
 use Rattle.trace.proofs.Promised.{promises_read}
@@ -22,7 +22,6 @@ use Rattle.walk.specs.Lowest.{rule_of, exchange_of}
 use Rattle.walk.proofs.Paces.{cleared_length}
 use Rattle.judge.specs.Judged.{RuleBytes, Judged, refused, short, illegal, accepted}
 use Rattle.judge.specs.Reply.{verdict_at, verdict_readable, rules_readable}
-use Rattle.judge.specs.declared.reply.Verdict.TheVariants.{Refused}
 use Rattle.judge.proofs.Walk.{Ended, walked}
 use Rattle.judge.proofs.Least.{rule_least, exchange_sound, exchange_complete}
 
@@ -42,7 +41,7 @@ cleared_rest zero bytes i l = refl
 cleared_rest (suc n) bytes i l = get_or-set_other (cleared n bytes) n i 0 0 (omega arith) ∙ cleared_rest n bytes i (omega arith)
 
 -- the walk over a readable file, in any buffer with a byte for each event
-pub walk_ended : (file : List ℕ) → reading file ≡ declared.TheVariants.Readable → (bytes : List ℕ) → events_of file ≤ length bytes →
+pub walk_ended : (file : List ℕ) → reading file ≡ Ok tt → (bytes : List ℕ) → events_of file ≤ length bytes →
     Ended file 0 bytes (walk_file file bytes)
 walk_ended file r bytes room =
     let few : events_of file ≤ event_limit = (promises_read file r).few_events in
@@ -54,15 +53,15 @@ walk_ended file r bytes room =
     (λ i l t. exchange_complete file r i l t)
     bytes room)
 
-pub judged_refused : (file before : List ℕ) {c : Cause} → reading file ≡ declared.TheVariants.Refused c → Judged file before (Refused c) before
+pub judged_refused : (file before : List ℕ) {c : Cause} → reading file ≡ Err c → Judged file before (Err c) before
 judged_refused file before e = refused (told_read file e)
 
 -- a readable file
-module _ (file before : List ℕ) (r : reading file ≡ declared.TheVariants.Readable) where
+module _ (file before : List ℕ) (r : reading file ≡ Ok tt) where
   abbrev N : ℕ
   N = events_of file
 
-  told : Told file declared.TheVariants.Readable
+  told : Told file (Ok tt)
   told = told_read file r
 
   -- enough bytes are lent

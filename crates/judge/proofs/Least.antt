@@ -8,6 +8,7 @@ use mathlib.Core.Path.{◌≡◌, refl, sym, ◌∙◌}
 use native.Mathlib.Omega.{arith}
 use native.Mathlib.Decide.{ℕ_discrete}
 use lib.Dec.{eqb}
+use Rattle.std.specs.Prelude.{Ok}
 use Rattle.paper.specs.Message.{agent}
 use Rattle.paper.specs.Event.{event, trace}
 use Rattle.paper.specs.Rules.{Step, Fake, SpyKeys, ClientHello, ServerHello, Certificate, CertVerify, ClientFinished, ServerFinished, ClientAccepts, ServerAccepts, ClientResume, ServerResume, Oops}
@@ -18,7 +19,6 @@ use Rattle.trace.specs.Reading.{reading}
 use Rattle.trace.specs.Promises.{Promised}
 use Rattle.trace.specs.declared.Row.{Row}
 use Rattle.trace.specs.declared.Row.TheVariants.{Agent, Number, Nonce, Prf, PublicKey, PrivateKey, SessionKey, Hash, Crypt, Pair}
-use Rattle.trace.specs.declared.Reading.TheVariants.{Readable}
 use Rattle.laws.proofs.First.{bool_cases}
 use Rattle.laws.proofs.Both.{both4, refuted}
 use Rattle.trace.proofs.Promised.{promises_read}
@@ -153,7 +153,7 @@ module _ (file used known : List ℕ) (find : Wanted → Bool) (both : Bool → 
       go (inl s) (inr c) = plain_in_order s c
       go (inr s) d = noted_in_order s
 
-module _ (file : List ℕ) (r : reading file ≡ Readable) (i : ℕ) (l : i < events_of file) where
+module _ (file : List ℕ) (r : reading file ≡ Ok tt) (i : ℕ) (l : i < events_of file) where
   abbrev P : Promised file
   P = promises_read file r
 
@@ -201,7 +201,7 @@ module _ (file : List ℕ) (r : reading file ≡ Readable) (i : ℕ) (l : i < ev
   rule_least = rw (rule_in_order file U K (past file i) (both_finished file i) h) in_order_least
 
 -- rule 6 on an event and the next
-module _ (file : List ℕ) (r : reading file ≡ Readable) (i : ℕ) (l : suc i < events_of file) where
+module _ (file : List ℕ) (r : reading file ≡ Ok tt) (i : ℕ) (l : suc i < events_of file) where
   abbrev first : i < events_of file
   first = omega arith
 

@@ -7,6 +7,7 @@ use native.Mathlib.Omega.{arith}
 use native.Mathlib.Decide.{dec_lt}
 use lib.ListN.{get_or}
 use lib.Seq.{ext_get_or}
+use Rattle.std.specs.Prelude.{Ok, Err}
 use Rattle.paper.specs.Event.{event, trace}
 use Rattle.paper.specs.Message.{agent}
 use Rattle.paper.specs.Rules.{Step, Exchange, ClientKeyExch}
@@ -15,7 +16,7 @@ use Rattle.trace.specs.File.{events_of}
 use Rattle.trace.proofs.Told.{told_readable, same_cause}
 use Rattle.judge.specs.Judged.{RuleAt, lowest, note, message, RuleBytes, Longest, refused, short, illegal, accepted}
 use Rattle.judge.specs.Promises.{OneVerdict}
-use Rattle.judge.specs.declared.reply.Verdict.TheVariants.{Refused, Illegal, Accepted}
+use Rattle.judge.specs.declared.reply.Verdict.TheVariants.{Illegal, Accepted}
 
 -- no rule of one event fits a note of rule 6
 pub not_both : {bad : agent → Type 0} {evs : trace} {d e : event} {k : ℕ} → Exchange bad evs d e → ¬ Step bad evs d k
@@ -52,7 +53,7 @@ module _ (file : List ℕ) where
       omega arith
 
 pub one_verdict : OneVerdict
-one_verdict file before v w after after' (refused t) (refused u) = (ap Refused (same_cause file t u), refl)
+one_verdict file before v w after after' (refused t) (refused u) = (ap Err (same_cause file t u), refl)
 one_verdict file before v w after after' (refused t) (short u s) = absurd (told_readable file t u)
 one_verdict file before v w after after' (refused t) (illegal u r l k b) = absurd (told_readable file t u)
 one_verdict file before v w after after' (refused t) (accepted u r g e b) = absurd (told_readable file t u)
@@ -64,7 +65,7 @@ one_verdict file before v w after after' (illegal t r l k b) (refused u) = absur
 one_verdict file before v w after after' (illegal t r l k b) (short u s) = absurd (omega arith)
 one_verdict file before v w after after' (illegal {n = n} t r l k b) (illegal {n = m} u s j i c) =
     let e = longest_one file n m l j in
-    (ap Illegal e, bytes_one file m before after after' (rw e at b) c)
+    (ap (λ k. Ok (Illegal k)) e, bytes_one file m before after after' (rw e at b) c)
 one_verdict file before v w after after' (illegal {n = n} t r l k b) (accepted {n = m} u s g e c) =
     absurd (l.longest m (omega arith) (omega arith) g)
 one_verdict file before v w after after' (accepted t r g e b) (refused u) = absurd (told_readable file u t)
@@ -73,4 +74,4 @@ one_verdict file before v w after after' (accepted {n = n} t r g e b) (illegal {
     absurd (l.longest n (omega arith) (omega arith) g)
 one_verdict file before v w after after' (accepted {n = n} t r g e b) (accepted {n = m} u s h f c) =
     let q : n ≡ m = e ∙ sym f in
-    (ap Accepted q, bytes_one file m before after after' (rw q at b) c)
+    (ap (λ k. Ok (Accepted k)) q, bytes_one file m before after after' (rw q at b) c)

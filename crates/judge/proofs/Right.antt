@@ -7,12 +7,12 @@ use mathlib.Core.Path.{◌≡◌, refl, sym}
 use native.Mathlib.Omega.{arith}
 use lib.Dec.{ltb}
 use lib.ListN.{length, length-replicate}
+use Rattle.std.specs.Prelude.{Ok}
 use Rattle.paper.specs.Message.{msg}
 use Rattle.paper.specs.Spy.{Analz, Synth, known}
 use Rattle.trace.specs.File.{row_limit, events_of}
 use Rattle.trace.specs.Reading.{reading}
 use Rattle.trace.specs.Meaning.{beginning}
-use Rattle.trace.specs.declared.Reading.TheVariants.{Readable}
 use Rattle.trace.proofs.Promised.{promises_read}
 use Rattle.closure.specs.Closure.{zeros, known_after}
 use Rattle.spy.specs.Knowledge as question
@@ -34,7 +34,7 @@ mark_made (neither n) = (λ t. absurd (true≢false (sym t)), λ s. absurd (n s)
 zeros_room : length (zeros row_limit) ≡ row_limit
 zeros_room = length-replicate {A = ℕ} row_limit 0
 
-pub rights : (file : List ℕ) → reading file ≡ Readable → (e : ℕ) → e ≤ events_of file →
+pub rights : (file : List ℕ) → reading file ≡ Ok tt → (e : ℕ) → e ≤ events_of file →
     Rights file (used_after file e) (known_after file e).rows e
 rights file r e l =
     let P = promises_read file r in

@@ -4,6 +4,7 @@ use Prim.Native.Nat.{ℕ, ◌<◌, ◌≤◌}
 use mathlib.Core.List.{List}
 use mathlib.Core.Path.{◌≡◌, refl}
 use native.Mathlib.Omega.{arith}
+use Rattle.std.specs.Prelude.{Result}
 use Rattle.paper.specs.Message.{nonce, plain, PRF, key, msg, Nonce}
 use Rattle.paper.specs.Event.{In, Notes}
 use Rattle.paper.specs.Spy.{Analz}
@@ -14,6 +15,7 @@ use Rattle.paper.proofs.Secret.{secret}
 use Rattle.trace.specs.Meaning.{message, beginning, bad}
 use Rattle.trace.specs.Promises.{Promised}
 use Rattle.trace.proofs.Promised.{promises}
+use Rattle.trace.specs.declared.Cause.{Cause}
 use Rattle.spy.specs.Knowledge as question
 use Rattle.spy.specs.Knowledge.{Mark, analysed, SeenIn}
 use Rattle.earlier.proofs.Meant.{in_beginning}
@@ -29,7 +31,7 @@ two_analysed (question.made n s) e = absurd (omega arith)
 two_analysed (question.neither n) e = absurd (omega arith)
 
 -- a verdict with a length refuses nothing
-long_view : {file before : List ℕ} {v : Verdict} {after : List ℕ} → Judged file before v after → 0 < verdict_length v → View file before v after
+long_view : {file before : List ℕ} {v : Result Verdict Cause} {after : List ℕ} → Judged file before v after → 0 < verdict_length v → View file before v after
 long_view (refused t) l = absurd (omega arith)
 long_view (short t s) l = absurd (omega arith)
 long_view (illegal t room g k b) l = view (illegal t room g k b) refl

@@ -6,24 +6,25 @@ use mathlib.Core.Path.{◌≡◌, refl, sym, ◌∙◌, ap}
 use native.Mathlib.Omega.{arith}
 use lib.ListN.{length, get_or}
 use borrow.Author.Tests.{lt-ltb, le-ltb}
+use Rattle.std.specs.Prelude.{Result, Ok}
 use Rattle.trace.specs.File.{events_of}
 use Rattle.trace.specs.Refusal.{Told}
-use Rattle.trace.specs.declared.Reading.TheVariants.{Readable}
 use Rattle.trace.proofs.Causes.{number_range}
 use Rattle.trace.proofs.Told.{told_readable}
+use Rattle.trace.specs.declared.Cause.{Cause}
 use Rattle.judge.specs.Judged.{RuleBytes, Longest, Judged, refused, short, illegal, accepted, verdict_number, verdict_length}
 use Rattle.judge.specs.Reply.{verdict_at}
 use Rattle.judge.specs.declared.reply.Verdict.{Verdict}
 use Rattle.judge.proofs.One.{longest_one, rule_one}
 
-pub record View (file before : List ℕ) (v : Verdict) (after : List ℕ) : Type 0 where
-  pub told : Told file Readable
+pub record View (file before : List ℕ) (v : Result Verdict Cause) (after : List ℕ) : Type 0 where
+  pub told : Told file (Ok tt)
   pub room : events_of file ≤ length before
   pub longest : Longest file (verdict_length v)
   pub is : v ≡ verdict_at (events_of file) (verdict_length v)
   pub bytes : RuleBytes file (verdict_length v) before after
 
-pub view : {file before : List ℕ} {v : Verdict} {after : List ℕ} → Judged file before v after → verdict_number v ≡ 0 → View file before v after
+pub view : {file before : List ℕ} {v : Result Verdict Cause} {after : List ℕ} → Judged file before v after → verdict_number v ≡ 0 → View file before v after
 view (refused {c = c} t) e = absurd (omega (arith, (number_range c).0))
 view (short t l) e = absurd (omega arith)
 view {file} (illegal {n = n} t room g l b) e =
@@ -38,14 +39,14 @@ view {file} (accepted {n = n} t room g q b) e =
     }
 
 -- a readable file with room is not refused
-pub readable_view : {file before : List ℕ} {v : Verdict} {after : List ℕ} → Judged file before v after → Told file Readable →
+pub readable_view : {file before : List ℕ} {v : Result Verdict Cause} {after : List ℕ} → Judged file before v after → Told file (Ok tt) →
     events_of file ≤ length before → View file before v after
 readable_view {file} (refused t) u l = absurd (told_readable file t u)
 readable_view (short t s) u l = absurd (omega arith)
 readable_view (illegal t room g k b) u l = view (illegal t room g k b) refl
 readable_view (accepted t room g e b) u l = view (accepted t room g e b) refl
 
-module _ {file before lent : List ℕ} {v w : Verdict} {after marks : List ℕ} (a : View file before v after) (b : View file lent w marks) where
+module _ {file before lent : List ℕ} {v w : Result Verdict Cause} {after marks : List ℕ} (a : View file before v after) (b : View file lent w marks) where
   same_length : verdict_length v ≡ verdict_length w
   same_length = longest_one file (verdict_length v) (verdict_length w) a.longest b.longest
 

@@ -1,9 +1,8 @@
 -- The marked cases of document 01, "The sample, and cases beside it": one list, and one claim over it.
-use Rattle.std.specs.Prelude.{ℕ, suc, List, [], ◌∷◌, replicate}
+use Rattle.std.specs.Prelude.{ℕ, suc, List, [], ◌∷◌, replicate, Ok}
 use Rattle.trace.specs.File.{rows_of, events_of}
 use Rattle.trace.specs.Sample.{over, says, hello, reply, signed, noted, sent, replayed, sample, empty}
 use Rattle.spy.specs.Knowledge.{Knows}
-use Rattle.spy.specs.declared.Answer.TheVariants.{Written}
 use Rattle.judge.specs.declared.reply.Verdict.{Verdict}
 use Rattle.judge.specs.declared.reply.Verdict.TheVariants.{Illegal, Accepted}
 use Rattle.judge.specs.Judged.{Judged}
@@ -18,8 +17,8 @@ abbrev pub buffer : ℕ → List ℕ
 buffer n = replicate (suc n) 255
 
 abbrev pub Holds : Case → Type 0
-Holds (verdict file v rules) = Judged file (buffer (events_of file)) v rules
-Holds (knowledge file n marks) = Knows file n (buffer (rows_of file)) Written marks
+Holds (verdict file v rules) = Judged file (buffer (events_of file)) (Ok v) rules
+Holds (knowledge file n marks) = Knows file n (buffer (rows_of file)) (Ok tt) marks
 
 abbrev pub P1 : Case
 P1 = verdict empty (Accepted 0) (255 ∷ [])

@@ -1,5 +1,5 @@
 -- The verdict: document 01, "Questions and their replies" and "The fourteen steps", over the paper's generated traces.
-use Rattle.std.specs.Prelude.{ℕ, suc, ◌<◌, ◌≤◌, List, ◌≡◌, length, get_or}
+use Rattle.std.specs.Prelude.{ℕ, suc, ◌<◌, ◌≤◌, List, ◌≡◌, length, get_or, Result, Ok, Err}
 use Rattle.paper.specs.Event.{event}
 use Rattle.paper.specs.Rules.{Step, Exchange}
 use Rattle.paper.specs.Generated.{Generated}
@@ -9,9 +9,8 @@ use Rattle.trace.specs.Refusal.{number_of, place_of, Told}
 use Rattle.trace.specs.Meaning.{event_meant, beginning, bad}
 use Rattle.trace.specs.declared.Cause.{Cause}
 use Rattle.trace.specs.declared.Cause.TheVariants.{ShortBuffer}
-use Rattle.trace.specs.declared.Reading as reading
 use Rattle.judge.specs.declared.reply.Verdict.{Verdict}
-use Rattle.judge.specs.declared.reply.Verdict.TheVariants.{Refused, Illegal, Accepted}
+use Rattle.judge.specs.declared.reply.Verdict.TheVariants.{Illegal, Accepted}
 
 -- the rules generate the first n events
 abbrev pub AcceptedTo : List ℕ → ℕ → Type 0
@@ -47,20 +46,20 @@ pub record Longest (file : List ℕ) (n : ℕ) : Type 0 where
   pub longest : (m : ℕ) → n < m → m ≤ events_of file → ¬ AcceptedTo file m
 
 -- the question: refusals 1 to 7, then 8, each with the buffer unwritten; or illegal; or accepted
-pub data Judged (file before : List ℕ) : Verdict → List ℕ → Type 0 where
-  refused : {c : Cause} → Told file (reading.TheVariants.Refused c) → Judged file before (Refused c) before
-  short : Told file reading.TheVariants.Readable → length before < events_of file → Judged file before (Refused ShortBuffer) before
-  illegal : {n : ℕ} {after : List ℕ} → Told file reading.TheVariants.Readable → events_of file ≤ length before →
-      Longest file n → n < events_of file → RuleBytes file n before after → Judged file before (Illegal n) after
-  accepted : {n : ℕ} {after : List ℕ} → Told file reading.TheVariants.Readable → events_of file ≤ length before →
-      AcceptedTo file n → n ≡ events_of file → RuleBytes file n before after → Judged file before (Accepted n) after
+pub data Judged (file before : List ℕ) : Result Verdict Cause → List ℕ → Type 0 where
+  refused : {c : Cause} → Told file (Err c) → Judged file before (Err c) before
+  short : Told file (Ok tt) → length before < events_of file → Judged file before (Err ShortBuffer) before
+  illegal : {n : ℕ} {after : List ℕ} → Told file (Ok tt) → events_of file ≤ length before →
+      Longest file n → n < events_of file → RuleBytes file n before after → Judged file before (Ok (Illegal n)) after
+  accepted : {n : ℕ} {after : List ℕ} → Told file (Ok tt) → events_of file ≤ length before →
+      AcceptedTo file n → n ≡ events_of file → RuleBytes file n before after → Judged file before (Ok (Accepted n)) after
 
 -- document 01's number and place of a refusal, 0 for none; and the length of the longest accepted beginning
-abbrev pub verdict_number : Verdict → ℕ
-verdict_number v = elim v [ Refused c ↦ number_of c | Illegal n ↦ 0 | Accepted n ↦ 0 ]
+abbrev pub verdict_number : Result Verdict Cause → ℕ
+verdict_number v = elim v [ Err c ↦ number_of c | Ok _ ↦ 0 ]
 
-abbrev pub verdict_place : Verdict → ℕ
-verdict_place v = elim v [ Refused c ↦ place_of c | Illegal n ↦ 0 | Accepted n ↦ 0 ]
+abbrev pub verdict_place : Result Verdict Cause → ℕ
+verdict_place v = elim v [ Err c ↦ place_of c | Ok _ ↦ 0 ]
 
-abbrev pub verdict_length : Verdict → ℕ
-verdict_length v = elim v [ Refused c ↦ 0 | Illegal n ↦ n | Accepted n ↦ n ]
+abbrev pub verdict_length : Result Verdict Cause → ℕ
+verdict_length v = elim v [ Err c ↦ 0 | Ok w ↦ elim w [ Illegal n ↦ n | Accepted n ↦ n ] ]

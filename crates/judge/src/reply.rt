@@ -1,10 +1,8 @@
-// What the judge replies.
-use trace::Cause;
+// What the judge replies to a file that it does not refuse.
 
-// Refused; or the length of the longest accepted beginning, short of all events or all of them.
-#[derive(Clone, Copy)]
+// The length of the longest accepted beginning: short of all events, or all of them.
+#[derive(Clone, Copy, PartialEq, Eq, Debug)]
 pub enum Verdict {
-    Refused(Cause),
     Illegal(u16),
     Accepted(u16),
 }

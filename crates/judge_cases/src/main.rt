@@ -112,14 +112,14 @@ fn print_refusal(rt: &impl Print, cause: Cause) -> io::Result<()> {
     print_number(rt, trace::place(cause) as usize)
 }
 
-fn print_verdict(rt: &impl Print, verdict: Verdict) -> io::Result<()> {
+fn print_verdict(rt: &impl Print, verdict: Result<Verdict, Cause>) -> io::Result<()> {
     match verdict {
-        Verdict::Refused(cause) => print_refusal(rt, cause),
-        Verdict::Illegal(n) => {
+        Err(cause) => print_refusal(rt, cause),
+        Ok(Verdict::Illegal(n)) => {
             print!(rt; " illegal")?;
             print_number(rt, n as usize)
         }
-        Verdict::Accepted(n) => {
+        Ok(Verdict::Accepted(n)) => {
             print!(rt; " accepted")?;
             print_number(rt, n as usize)
         }

@@ -1,19 +1,38 @@
-// What the contents part has to hold besides the version and the set: refusal 4.
-ghost use Rattle.std.specs.Prelude.{◌≡◌, ◌≤◌};
-ghost use Rattle.trace.specs.File.{row_limit};
-ghost use Rattle.trace.specs.Tests.{wrong_contents};
+// What the contents part has to hold: refusals 2 to 4.
+ghost use Rattle.std.specs.Prelude.{◌≡◌};
+ghost use Rattle.trace.specs.Tests.{wrong_version, wrong_set, wrong_contents};
 
+use trace::AgentNo;
 use trace::header::Header;
-use trace::limits::{EVENTS, ITEM, ROWS_AT};
+use trace::limits::{EVENTS, ITEM, ROWS, ROWS_AT};
 
-// Of a file that has not too many rows.
+const VERSION: u16 = 1;
+
+const RESERVED: u16 = 0;
+
+const SPY: AgentNo = AgentNo(0);
+
+const AUTHORITY: AgentNo = AgentNo(1);
+
+pub fn wrong_version(h: Header) -> bool
+    ensures { result ≡ wrong_version h }
+{
+    (h.version != VERSION) | (h.reserved != RESERVED)
+}
+
+pub fn wrong_set(file: &[u8]) -> bool
+    ensures { result ≡ wrong_set file.now }
+{
+    !trace::compromised(file, SPY) | trace::compromised(file, AUTHORITY)
+}
+
 pub fn wrong_contents(h: Header, len: usize) -> bool
-    requires { h.rows ≤ row_limit }
     ensures { result ≡ wrong_contents h len }
 {
     let events_at = ROWS_AT + ITEM * (h.rows as usize);
     let end = events_at + ITEM * (h.events as usize);
-    (EVENTS < h.events)
+    (ROWS < h.rows)
+        | (EVENTS < h.events)
         | ((h.rows_at as usize) != ROWS_AT)
         | ((h.events_at as usize) != events_at)
         | (len != end)

@@ -8,6 +8,7 @@ use native.Mathlib.Omega.{arith}
 use lib.Dec.{ltb}
 use lib.ListN.{length, get_or, drop, replicate, length-append}
 use borrow.Author.Tests.{ltb-true, ltb-false}
+use Rattle.std.specs.Prelude.{Result, Ok, Err}
 use Rattle.paper.specs.Event.{event, trace}
 use Rattle.paper.specs.Message.{agent}
 use Rattle.paper.specs.Rules.{Step, Fake, SpyKeys, ClientHello, ServerHello, Certificate, CertVerify, ClientFinished, ServerFinished, ClientAccepts, ServerAccepts, ClientResume, ServerResume, Oops}
@@ -20,7 +21,7 @@ use Rattle.trace.proofs.Told.{told_place}
 use Rattle.trace.proofs.Promised.{promises}
 use Rattle.judge.specs.Judged.{RuleAt, lowest, note, message, RuleBytes, Judged, refused, short, illegal, accepted}
 use Rattle.judge.specs.declared.reply.Verdict.{Verdict}
-use Rattle.judge.specs.declared.reply.Verdict.TheVariants.{Refused, Illegal, Accepted}
+use Rattle.judge.specs.declared.reply.Verdict.TheVariants.{Illegal, Accepted}
 use Rattle.report.specs.Text.{digits, event_line, event_lines, last_line, text_of, Reported}
 use Rattle.report.specs.Page.{Put}
 use Rattle.report.specs.Promises.{ShortText}
@@ -85,7 +86,7 @@ small_rule (lowest f l n) = small_step f
 small_rule (note x) = omega arith
 small_rule (message x) = omega arith
 
-refusal : (rules : List ℕ) (c : Cause) → place_of c < 10000 → length (text_of (Refused c) rules) ≤ 3600
+refusal : (rules : List ℕ) (c : Cause) → place_of c < 10000 → length (text_of (Err c) rules) ≤ 3600
 unfolding event_lines last_line
 refusal rules c k =
     let a = one_digit (number_of c) (omega (arith, (number_range c).1)) in
@@ -96,14 +97,14 @@ module _ (file before : List ℕ) (n : ℕ) (after : List ℕ) (b : RuleBytes fi
   all_lines : length (event_lines after n) ≤ 3584
   all_lines = let l = lines after n few (λ i h. small_rule (b.rules i h)) in omega arith
 
-  illegal_text : length (text_of (Illegal n) after) ≤ 3600
+  illegal_text : length (text_of (Ok (Illegal n)) after) ≤ 3600
   unfolding last_line
   illegal_text =
       let l = all_lines in
       let d = three_digits n (omega arith) in
       simp length-append (omega arith)
 
-  accepted_text : length (text_of (Accepted n) after) ≤ 3600
+  accepted_text : length (text_of (Ok (Accepted n)) after) ≤ 3600
   unfolding last_line
   accepted_text =
       let l = all_lines in
@@ -118,7 +119,7 @@ short_text file before v rules (illegal {n = n} t r l k b) =
 short_text file before v rules (accepted {n = n} t r g e b) =
     let P = promises file t in accepted_text file before n rules b (omega (arith, P.few_events))
 
-pub reported : (file before after : List ℕ) (n : ℕ) (v : Verdict) (rules : List ℕ) → length before ≡ 4096 →
+pub reported : (file before after : List ℕ) (n : ℕ) (v : Result Verdict Cause) (rules : List ℕ) → length before ≡ 4096 →
     Judged file (replicate event_limit 0) v rules → Put before 0 (text_of v rules) after n → Reported file before n after
 reported file before after n v rules e j p =
     let h : length (text_of v rules) ≤ length before = omega (arith, short_text file (replicate event_limit 0) v rules j) in

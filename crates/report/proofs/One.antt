@@ -4,14 +4,16 @@ use Prim.Native.Nat.{ℕ}
 use mathlib.Core.List.{List, ◌++◌}
 use mathlib.Core.Path.{◌≡◌, sym, ap, ◌∙◌}
 use lib.ListN.{length, drop, replicate}
+use Rattle.std.specs.Prelude.{Result}
 use Rattle.trace.specs.File.{event_limit}
+use Rattle.trace.specs.declared.Cause.{Cause}
 use Rattle.judge.specs.declared.reply.Verdict.{Verdict}
 use Rattle.judge.proofs.One.{one_verdict}
 use Rattle.report.specs.Text.{text_of}
 use Rattle.report.specs.Promises.{OneText}
 
-same_text : {v w : Verdict} {rules rules' : List ℕ} → (v ≡ w) × (rules ≡ rules') → text_of v rules ≡ text_of w rules'
-same_text {v} {w} {rules} {rules'} e = ap (λ (x : Verdict). text_of x rules) e.0 ∙ ap (λ (x : List ℕ). text_of w x) e.1
+same_text : {v w : Result Verdict Cause} {rules rules' : List ℕ} → (v ≡ w) × (rules ≡ rules') → text_of v rules ≡ text_of w rules'
+same_text {v} {w} {rules} {rules'} e = ap (λ (x : Result Verdict Cause). text_of x rules) e.0 ∙ ap (λ (x : List ℕ). text_of w x) e.1
 
 pub one_text : OneText
 one_text file before n m after after' r s =

@@ -5,8 +5,10 @@ use mathlib.Core.List.{List, [], ◌∷◌, ◌++◌}
 use mathlib.Core.Path.{◌≡◌, refl, sym, ◌∙◌, ap}
 use native.Mathlib.Omega.{arith}
 use lib.ListN.{length, get_or, drop, replicate, length-replicate}
+use Rattle.std.specs.Prelude.{Result, Ok}
 use Rattle.trace.specs.File.{word, event_limit, events_of}
 use Rattle.trace.specs.Sample.{over, sample}
+use Rattle.trace.specs.declared.Cause.{Cause}
 use Rattle.judge.specs.Judged.{Judged}
 use Rattle.judge.specs.Cases.{Holds, P2, marked_cases, All, also}
 use Rattle.judge.specs.declared.reply.Verdict.{Verdict}
@@ -25,7 +27,7 @@ lines_same rules others (suc n) h = rw (lines_same rules others n (λ i l. h i (
 abbrev found : List ℕ
 found = 3 ∷ 4 ∷ 5 ∷ 6 ∷ 6 ∷ 1 ∷ 255 ∷ []
 
-text_computed : text_of (Accepted 6) found ≡ sample_text
+text_computed : text_of (Ok (Accepted 6)) found ≡ sample_text
 unfolding digits_within event_line event_lines last_line
 text_computed = refl
 
@@ -36,13 +38,13 @@ events : events_of sample ≡ 6
 unfolding over word
 events = refl
 
-module _ (v : Verdict) (rules : List ℕ) (j : Judged sample (replicate event_limit 0) v rules) where
+module _ (v : Result Verdict Cause) (rules : List ℕ) (j : Judged sample (replicate event_limit 0) v rules) where
   text_same : text_of v rules ≡ sample_text
   text_same =
       let a = view (p2 marked_cases_lem) refl in
       let b = readable_view j a.told (omega (arith, events, length-replicate {A = ℕ} event_limit 0)) in
       rw (← same_verdict a b)
-      (ap (λ (xs : List ℕ). xs ++ last_line (Accepted 6)) (sym (lines_same found rules 6 (same_rules a b))) ∙ text_computed)
+      (ap (λ (xs : List ℕ). xs ++ last_line (Ok (Accepted 6))) (sym (lines_same found rules 6 (same_rules a b))) ∙ text_computed)
 
 pub sample_text_lem : SampleText
 sample_text_lem before n after r =

@@ -1,6 +1,7 @@
 -- What the text promises: its numbers are decimal, a file has one text, and that is short.
-use Rattle.std.specs.Prelude.{ℕ, ◌+◌, ◌*◌, ◌-◌, ◌<◌, ◌≤◌, List, [], ◌∷◌, ◌++◌, ◌≡◌, length, get_or, drop}
+use Rattle.std.specs.Prelude.{ℕ, ◌+◌, ◌*◌, ◌-◌, ◌<◌, ◌≤◌, List, [], ◌∷◌, ◌++◌, ◌≡◌, length, get_or, drop, Result}
 use Rattle.trace.specs.Sample.{sample}
+use Rattle.trace.specs.declared.Cause.{Cause}
 use Rattle.judge.specs.Judged.{Judged}
 use Rattle.judge.specs.declared.reply.Verdict.{Verdict}
 use Rattle.report.specs.Text.{digits, text_of, Reported}
@@ -32,7 +33,7 @@ OneText =
 
 -- the text of a judged file has at most 3,600 bytes
 abbrev pub ShortText : Type 0
-ShortText = (file before : List ℕ) (v : Verdict) (rules : List ℕ) → Judged file before v rules → length (text_of v rules) ≤ 3600
+ShortText = (file before : List ℕ) (v : Result Verdict Cause) (rules : List ℕ) → Judged file before v rules → length (text_of v rules) ≤ 3600
 
 -- what document 01 prints for the sample, P2
 abbrev pub sample_text : List ℕ

@@ -1,10 +1,11 @@
 -- What the small program prints: document 01, "The bench's small program".
-use Rattle.std.specs.Prelude.{ℕ, zero, suc, ◌+◌, ◌/◌, ◌%◌, true, false, List, [], ◌∷◌, ◌++◌, ◌≡◌, ltb, length, get_or, drop, replicate}
+use Rattle.std.specs.Prelude.{ℕ, zero, suc, ◌+◌, ◌/◌, ◌%◌, true, false, List, [], ◌∷◌, ◌++◌, ◌≡◌, ltb, length, get_or, drop, replicate, Result, Ok, Err}
 use Rattle.trace.specs.File.{event_limit}
 use Rattle.trace.specs.Refusal.{number_of, place_of}
+use Rattle.trace.specs.declared.Cause.{Cause}
 use Rattle.judge.specs.Judged.{Judged, verdict_length}
 use Rattle.judge.specs.declared.reply.Verdict.{Verdict}
-use Rattle.judge.specs.declared.reply.Verdict.TheVariants.{Refused, Illegal, Accepted}
+use Rattle.judge.specs.declared.reply.Verdict.TheVariants.{Illegal, Accepted}
 
 -- a number in decimal; the first number bounds the digits, and any above the second serves
 unfoldable pub digits_within : ℕ → ℕ → List ℕ
@@ -39,17 +40,17 @@ event_lines rules zero = []
 event_lines rules (suc n) = event_lines rules n ++ event_line n (get_or rules n 0)
 
 -- the last line
-unfoldable pub last_line : Verdict → List ℕ
-last_line (Refused c) = refused_word ++ (digits (number_of c) ++ (space ++ (digits (place_of c) ++ newline)))
-last_line (Illegal n) = illegal_word ++ (digits n ++ newline)
-last_line (Accepted n) = accepted_word ++ (digits n ++ newline)
+unfoldable pub last_line : Result Verdict Cause → List ℕ
+last_line (Err c) = refused_word ++ (digits (number_of c) ++ (space ++ (digits (place_of c) ++ newline)))
+last_line (Ok (Illegal n)) = illegal_word ++ (digits n ++ newline)
+last_line (Ok (Accepted n)) = accepted_word ++ (digits n ++ newline)
 
-abbrev pub text_of : Verdict → (rules : List ℕ) → List ℕ
+abbrev pub text_of : Result Verdict Cause → (rules : List ℕ) → List ℕ
 text_of v rules = event_lines rules (verdict_length v) ++ last_line v
 
 -- the text of the verdict stands at the start of the buffer, and later bytes keep their content
 pub record Reported (file before : List ℕ) (n : ℕ) (after : List ℕ) : Type 0 where
-  pub verdict : Verdict
+  pub verdict : Result Verdict Cause
   pub rules : List ℕ
   pub judged : Judged file (replicate event_limit 0) verdict rules
   pub size : n ≡ length (text_of verdict rules)

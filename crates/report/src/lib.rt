@@ -1,10 +1,10 @@
 // The text that the bench's small program prints: a line for each event of the accepted beginning, then the verdict.
 #![tactic(auto)]
 
-ghost use Rattle.std.specs.Prelude.{◌≡◌, ◌∷◌, [], ◌+◌, ◌%◌, get_or};
+ghost use Rattle.std.specs.Prelude.{◌≡◌, ◌∷◌, [], ◌+◌, ◌%◌, get_or, Ok, Err};
 ghost use Rattle.report.specs.Page.{Put};
 ghost use Rattle.report.specs.Text.{digits, event_line, event_lines, last_line, text_of, Reported};
-ghost use Rattle.judge.specs.declared.reply.Verdict.TheVariants.{Refused, Illegal, Accepted};
+ghost use Rattle.judge.specs.declared.reply.Verdict.TheVariants.{Illegal, Accepted};
 
 use judge::reply::Verdict;
 use trace::Cause;
@@ -89,7 +89,7 @@ fn put_events(out: &mut [u8], rules: &[u8], n: u16) -> usize
 }
 
 fn put_refused(out: &mut [u8], at: usize, cause: Cause) -> usize
-    ensures { Put out.old at (last_line (Refused cause)) out.new result }
+    ensures { Put out.old at (last_line (Err cause)) out.new result }
 {
     let word = put_word(out, at, b"refused ");
     let number = put_digits(out, word, trace::number(cause));
@@ -99,7 +99,7 @@ fn put_refused(out: &mut [u8], at: usize, cause: Cause) -> usize
 }
 
 fn put_illegal(out: &mut [u8], at: usize, n: u16) -> usize
-    ensures { Put out.old at (last_line (Illegal n)) out.new result }
+    ensures { Put out.old at (last_line (Ok (Illegal n))) out.new result }
 {
     let word = put_word(out, at, b"illegal ");
     let line = put_digits(out, word, n);
@@ -107,7 +107,7 @@ fn put_illegal(out: &mut [u8], at: usize, n: u16) -> usize
 }
 
 fn put_accepted(out: &mut [u8], at: usize, n: u16) -> usize
-    ensures { Put out.old at (last_line (Accepted n)) out.new result }
+    ensures { Put out.old at (last_line (Ok (Accepted n))) out.new result }
 {
     let word = put_word(out, at, b"accepted ");
     let line = put_digits(out, word, n);
@@ -115,19 +115,21 @@ fn put_accepted(out: &mut [u8], at: usize, n: u16) -> usize
 }
 
 // The text of a verdict; where the buffer ends it is cut.
-fn text(v: Verdict, rules: &[u8], out: &mut [u8]) -> usize
+fn text(v: Result<Verdict, Cause>, rules: &[u8], out: &mut [u8]) -> usize
     ensures { Put out.old 0 (text_of v rules.now) out.new result }
 {
     match v {
-        Verdict::Refused(cause) => put_refused(out, 0, cause),
-        Verdict::Illegal(n) => {
-            let next = put_events(out, rules, n);
-            put_illegal(out, next, n)
-        }
-        Verdict::Accepted(n) => {
-            let next = put_events(out, rules, n);
-            put_accepted(out, next, n)
-        }
+        Err(cause) => put_refused(out, 0, cause),
+        Ok(verdict) => match verdict {
+            Verdict::Illegal(n) => {
+                let next = put_events(out, rules, n);
+                put_illegal(out, next, n)
+            }
+            Verdict::Accepted(n) => {
+                let next = put_events(out, rules, n);
+                put_accepted(out, next, n)
+            }
+        },
     }
 }
 

@@ -8,6 +8,7 @@ use native.Mathlib.Decide.{dec_lt}
 use lib.ListN.{length, get_or}
 use lib.Seq.{ext_get_or}
 use borrow.Author.Tests.{lt-ltb, le-ltb}
+use Rattle.std.specs.Prelude.{Result, Ok, Err, ⊤}
 use Rattle.paper.specs.Message.{msg}
 use Rattle.paper.specs.Spy.{known}
 use Rattle.trace.specs.File.{rows_of, events_of}
@@ -17,15 +18,12 @@ use Rattle.trace.specs.Meaning.{beginning}
 use Rattle.trace.specs.Promises.{Promised}
 use Rattle.trace.specs.declared.Cause.{Cause}
 use Rattle.trace.specs.declared.Cause.TheVariants.{ShortBuffer, TooManyEvents}
-use Rattle.trace.specs.declared.Reading as declared
 use Rattle.trace.proofs.Told.{told_read, same_cause, told_readable}
 use Rattle.trace.proofs.Promised.{promises}
 use Rattle.closure.specs.Closure.{known_after}
 use Rattle.spy.specs.Knowledge.{Mark, analysed, made, neither, Marks, Knows, refused, short, many, written, SeenIn, answer_number, answer_place}
 use Rattle.spy.specs.Reply.{marks_after, answer_readable, bytes_readable}
 use Rattle.spy.specs.Promises.{OneAnswer, Line, told, eight, nine, Refuses}
-use Rattle.spy.specs.declared.Answer.{Answer}
-use Rattle.spy.specs.declared.Answer.TheVariants.{Refused}
 use Rattle.closure.proofs.Exact.{marks_analysed}
 use Rattle.closure.proofs.Starting.{good_after}
 use Rattle.spy.proofs.Makes.{marks_length, marks_right, marks_rest}
@@ -43,15 +41,15 @@ marks_after_lem file P n l before room =
       rest = marks_rest file s.rows (rows_of file) before;
     }
 
-pub knows_refused : (file : List ℕ) (n : ℕ) (before : List ℕ) {c : Cause} → reading file ≡ declared.TheVariants.Refused c →
-    Knows file n before (Refused c) before
+pub knows_refused : (file : List ℕ) (n : ℕ) (before : List ℕ) {c : Cause} → reading file ≡ Err c →
+    Knows file n before (Err c) before
 knows_refused file n before e = refused (told_read file e)
 
-pub knows_readable : (file : List ℕ) (n : ℕ) (before : List ℕ) → reading file ≡ declared.TheVariants.Readable →
+pub knows_readable : (file : List ℕ) (n : ℕ) (before : List ℕ) → reading file ≡ Ok tt →
     Knows file n before (answer_readable file n before) (bytes_readable file n before)
 knows_readable file n before e = go (dec_lt (length before) (rows_of file)) (dec_lt (events_of file) n)
   where
-    clean : Told file declared.TheVariants.Readable
+    clean : Told file (Ok tt)
     clean = told_read file e
 
     go : Dec (length before < rows_of file) → Dec (events_of file < n) → Knows file n before (answer_readable file n before) (bytes_readable file n before)
@@ -85,7 +83,7 @@ marks_one file n before after after' m k =
     go i (no l) = m.rest i (omega arith) ∙ sym (k.rest i (omega arith))
 
 pub one_answer : OneAnswer
-one_answer file n before a b after after' (refused t) (refused u) = (ap Refused (same_cause file t u), refl)
+one_answer file n before a b after after' (refused t) (refused u) = (ap Err (same_cause file t u), refl)
 one_answer file n before a b after after' (refused t) (short u s) = absurd (told_readable file t u)
 one_answer file n before a b after after' (refused t) (many u r m) = absurd (told_readable file t u)
 one_answer file n before a b after after' (refused t) (written u r l k) = absurd (told_readable file t u)
@@ -104,19 +102,19 @@ one_answer file n before a b after after' (written t r l k) (written u q m j) = 
 
 -- a line of the table is an answer, and so the only one
 line_knows : {file : List ℕ} {n : ℕ} {before : List ℕ} {k p : ℕ} → Line file n before k p →
-    (c : Cause) × Knows file n before (Refused c) before × (number_of c ≡ k) × (place_of c ≡ p)
+    (c : Cause) × Knows file n before (Err c) before × (number_of c ≡ k) × (place_of c ≡ p)
 line_knows (told {c = c} t) = (c, refused t, refl, refl)
 line_knows (eight t l) = (ShortBuffer, short t l, refl, refl)
 line_knows (nine t r l) = (TooManyEvents, many t r l, refl, refl)
 
-knows_line : {file : List ℕ} {n : ℕ} {before : List ℕ} {a : Answer} {after : List ℕ} → Knows file n before a after → 0 < answer_number a →
+knows_line : {file : List ℕ} {n : ℕ} {before : List ℕ} {a : Result ⊤ Cause} {after : List ℕ} → Knows file n before a after → 0 < answer_number a →
     Line file n before (answer_number a) (answer_place a)
 knows_line (refused t) l = told t
 knows_line (short t s) l = eight t s
 knows_line (many t r m) l = nine t r m
 knows_line (written t r m k) l = absurd (omega arith)
 
-knows_unwritten : {file : List ℕ} {n : ℕ} {before : List ℕ} {a : Answer} {after : List ℕ} → Knows file n before a after → 0 < answer_number a →
+knows_unwritten : {file : List ℕ} {n : ℕ} {before : List ℕ} {a : Result ⊤ Cause} {after : List ℕ} → Knows file n before a after → 0 < answer_number a →
     after ≡ before
 knows_unwritten (refused t) l = refl
 knows_unwritten (short t s) l = refl
@@ -131,7 +129,7 @@ refuses f n before a after knows =
         λ (e, q). rw (← e, ← q) (knows_line knows (omega arith)),
         λ line.
             let h = line_knows line in
-            let same = (one_answer f n before a (Refused h.0) after before knows h.1).0 in
+            let same = (one_answer f n before a (Err h.0) after before knows h.1).0 in
             (ap answer_number same ∙ h.2, ap answer_place same ∙ h.3),
       );
     }

@@ -8,6 +8,7 @@ use mathlib.Core.Logic.{◌⊎◌, inl, inr}
 use mathlib.Core.Path.{◌≡◌, refl, sym, ◌∙◌, subst}
 use native.Mathlib.Omega.{arith}
 use lib.ListN.{get_or}
+use Rattle.std.specs.Prelude.{Ok}
 use Rattle.paper.specs.Message.{msg}
 use Rattle.paper.specs.Event.{trace, here, Beginning, whole, earlier}
 use Rattle.paper.specs.Spy.{Starts, own, Spies, start, said, noted, Synth}
@@ -24,12 +25,10 @@ use Rattle.trace.specs.declared.AgentNo.{AgentNo}
 use Rattle.trace.specs.declared.RowNo.{RowNo}
 use Rattle.trace.specs.declared.Event.{Event}
 use Rattle.trace.specs.declared.Event.TheVariants.{Says, Notes}
-use Rattle.trace.specs.declared.Reading.TheVariants.{Readable}
 use Rattle.laws.proofs.First.{bool_cases, lt_suc}
 use Rattle.trace.proofs.Promised.{promises}
 use Rattle.spy.specs.Knowledge.{Mark, analysed, made, neither, Marks, Knows, written, SeenIn}
 use Rattle.spy.specs.Promises.{OnlyGrows, struck_out, events_left, SameRows, SeenDecides}
-use Rattle.spy.specs.declared.Answer.TheVariants.{Written}
 use Rattle.closure.proofs.Exact.{Newest, in_says_lem, in_notes_lem, newest, older}
 
 mark_grows : {G H : msg → Type 0} {X : msg} {m k : ℕ} → Within G H → Mark G X m → Mark H X k → m ≤ k
@@ -42,8 +41,8 @@ mark_grows w (made n s) (neither m) = absurd (m (synth_mono (λ X. analz_mono w)
 mark_grows w (neither n) k = omega arith
 
 -- what an answer says of its file
-pub told_file : {file : List ℕ} {n : ℕ} {before after : List ℕ} → Knows file n before Written after →
-    Told file Readable × (n ≤ events_of file) × Marks file n before after
+pub told_file : {file : List ℕ} {n : ℕ} {before after : List ℕ} → Knows file n before (Ok tt) after →
+    Told file (Ok tt) × (n ≤ events_of file) × Marks file n before after
 told_file (written t r l m) = (t, l, m)
 
 pub begins : (file : List ℕ) (n m : ℕ) → n ≤ m → Beginning (beginning file n) (beginning file m)

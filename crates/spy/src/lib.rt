@@ -9,13 +9,7 @@ ghost use Rattle.spy.specs.Knowledge.{Knows};
 ghost use Rattle.spy.specs.Reply.{marks_after, answer_readable, bytes_readable};
 
 use closure::Known;
-use trace::{Cause, EventNo, Reading};
-
-#[derive(Clone, Copy)]
-pub enum Answer {
-    Refused(Cause),
-    Written,
-}
+use trace::{Cause, EventNo};
 
 // What is known after the first n events.
 #[tactic(auto, using(closure::proofs::Folds::known_more))]
@@ -38,29 +32,26 @@ fn write(file: &[u8], n: u16, buffer: &mut [u8])
 }
 
 // The question, for a file that is readable.
-fn answer_readable(file: &[u8], n: usize, buffer: &mut [u8]) -> Answer
+fn answer_readable(file: &[u8], n: usize, buffer: &mut [u8]) -> Result<(), Cause>
     ensures value { result ≡ answer_readable file.now n buffer.old }
     ensures buffer_after { buffer.new ≡ bytes_readable file.now n buffer.old }
 {
     let rows = trace::row_count(file);
     if buffer.len() < rows as usize {
-        return Answer::Refused(Cause::ShortBuffer);
+        return Err(Cause::ShortBuffer);
     }
     let events = trace::event_count(file);
     if (events as usize) < n {
-        return Answer::Refused(Cause::TooManyEvents);
+        return Err(Cause::TooManyEvents);
     }
     write(file, n as u16, buffer);
-    Answer::Written
+    Ok(())
 }
 
 // The knowledge question: a mark for each row after the first n events, legal or not.
-pub fn knowledge(file: &[u8], n: usize, buffer: &mut [u8]) -> Answer
+pub fn knowledge(file: &[u8], n: usize, buffer: &mut [u8]) -> Result<(), Cause>
     ensures { Knows file.now n buffer.old result buffer.new }
 {
-    let reading = reading::read(file);
-    match reading {
-        Reading::Refused(cause) => Answer::Refused(cause),
-        Reading::Readable => answer_readable(file, n, buffer),
-    }
+    reading::read(file)?;
+    answer_readable(file, n, buffer)
 }

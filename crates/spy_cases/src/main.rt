@@ -4,7 +4,6 @@
 mod chains;
 mod files;
 
-use spy::Answer;
 use std::io;
 use trace::Cause;
 use trace::limits::{LONGEST_FILE, ROW_LIMIT, ROWS};
@@ -77,10 +76,10 @@ fn print_refusal(rt: &impl Print, cause: Cause) -> io::Result<()> {
     print_number(rt, trace::place(cause) as usize)
 }
 
-fn print_answer(rt: &impl Print, answer: Answer) -> io::Result<()> {
+fn print_answer(rt: &impl Print, answer: Result<(), Cause>) -> io::Result<()> {
     match answer {
-        Answer::Refused(cause) => print_refusal(rt, cause),
-        Answer::Written => Ok(()),
+        Err(cause) => print_refusal(rt, cause),
+        Ok(()) => Ok(()),
     }
 }
 

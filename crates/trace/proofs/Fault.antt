@@ -9,6 +9,7 @@ use native.Mathlib.Decide.{dec_le}
 use lib.Dec.{leb}
 use lib.ListN.{length}
 use borrow.Author.Tests.{le-leb, lt-leb}
+use Rattle.std.specs.Prelude.{Err}
 use Rattle.trace.specs.File.{rows_from, rows_of, events_of, events_from}
 use Rattle.trace.specs.Refusal as table
 use Rattle.trace.specs.Refusal.{number_of, Wrong, Told, refused}
@@ -19,7 +20,6 @@ use Rattle.trace.specs.declared.EventNo.{EventNo}
 use Rattle.trace.specs.declared.Span.{Span}
 use Rattle.trace.specs.declared.Cause.{Cause}
 use Rattle.trace.specs.declared.Cause.TheVariants.{TooShort, WrongVersion, WrongSet, WrongContents, BadRow, RepeatedRow, BadEvent}
-use Rattle.trace.specs.declared.Reading.TheVariants.{Refused}
 use Rattle.trace.proofs.Told.{whole_length, few_rows, few_events}
 
 -- the test of a length without a sum
@@ -72,7 +72,7 @@ pub data Fault (file : List ℕ) : Cause → Type 0 where
   repeated : {r : RowNo} → row_span file r.0 ≡ row_part r.0 → Inside file (row_part r.0) → Fault file (RepeatedRow r)
   event : {e : EventNo} → event_span file e.0 ≡ event_part file e.0 → Inside file (event_part file e.0) → Fault file (BadEvent e)
 
-pub told_fault : (file : List ℕ) (c : Cause) → Told file (Refused c) → Fault file c
+pub told_fault : (file : List ℕ) (c : Cause) → Told file (Err c) → Fault file c
 told_fault file c (refused w less) = go w (λ l. less WrongContents l)
   where
     go : {c : Cause} → Wrong file c → (4 < number_of c → ¬ Wrong file WrongContents) → Fault file c

@@ -7,6 +7,7 @@ use mathlib.Core.Logic.{⊎_elim}
 use mathlib.Core.Path.{◌≡◌, sym, ◌∙◌, ap}
 use native.Mathlib.Omega.{arith}
 use borrow.Author.Tests.{not-false}
+use Rattle.std.specs.Prelude.{Ok}
 use Rattle.trace.specs.File.{rows_of, events_of, compromised_in}
 use Rattle.trace.specs.Rows.{fields_at, KeepsLine}
 use Rattle.trace.specs.Events.{EventLine, KeepsEventLine, event_of}
@@ -16,7 +17,6 @@ use Rattle.trace.specs.Reading.{reading}
 use Rattle.trace.specs.Events as table
 use Rattle.trace.specs.Promises.{Exists, says, notes, Promised, Promises, KeptApart}
 use Rattle.trace.specs.declared.Cause.{Cause}
-use Rattle.trace.specs.declared.Reading.TheVariants.{Readable}
 use Rattle.laws.proofs.First.{bool_cases}
 use Rattle.trace.proofs.Tested.{tested, six}
 use Rattle.trace.proofs.Told.{told_read, lowest_none, rows_decided, repeats_decided, events_decided, few_rows, few_events}
@@ -69,7 +69,7 @@ module _ (file : List ℕ) (clean : (c : Cause) → ¬ Wrong file c) where
 pub promises : Promises
 promises file (readable none) = promised file none
 
-pub promises_read : (file : List ℕ) → reading file ≡ Readable → Promised file
+pub promises_read : (file : List ℕ) → reading file ≡ Ok tt → Promised file
 promises_read file e = promises file (told_read file e)
 
 pub kept_apart : KeptApart

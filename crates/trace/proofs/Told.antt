@@ -9,6 +9,7 @@ use native.Mathlib.Omega.{arith}
 use native.Mathlib.Decide.{dec_lt, ℕ_discrete}
 use lib.ListN.{length}
 use borrow.Author.Tests.{not-true, not-false}
+use Rattle.std.specs.Prelude.{Result, Ok, Err, ⊤}
 use Rattle.trace.specs.File.{row_limit, event_limit, rows_from, rows_of, events_of, events_from}
 use Rattle.trace.specs.Rows.{KeepsLine}
 use Rattle.trace.specs.Events.{KeepsEventLine}
@@ -19,8 +20,6 @@ use Rattle.trace.specs.Reading.{read_items, reading}
 use Rattle.trace.specs.Promises.{Refusals}
 use Rattle.trace.specs.declared.Cause.{Cause}
 use Rattle.trace.specs.declared.Cause.TheVariants.{TooShort, WrongContents, BadRow, RepeatedRow, BadEvent}
-use Rattle.trace.specs.declared.Reading.{Reading}
-use Rattle.trace.specs.declared.Reading.TheVariants.{Refused, Readable}
 use Rattle.laws.proofs.First.{find, first_found, first_none, any_some, any_inv, bool_cases, lt_suc}
 use Rattle.trace.proofs.Causes.{cause_of, cause_numbered, one_cause, number_range}
 use Rattle.trace.proofs.Contents.{is_version, not_version, is_set, not_set, is_contents, not_contents}
@@ -225,8 +224,8 @@ module _ (file : List ℕ) where
       let h : number_of c ≡ number_of d = omega arith in
       one_cause c d h (same_place (number_of d) (place_of c) (place_of d) (wrong_number w) (rw h at (placed v)) (placed w))
 
-  told_one : (r s : Reading) → Told file r → Told file s → r ≡ s
-  told_one r s (refused v n) (refused w m) = ap Refused (wrong_one v w (λ l. n _ l w) (λ l. m _ l v))
+  told_one : (r s : Result ⊤ Cause) → Told file r → Told file s → r ≡ s
+  told_one r s (refused v n) (refused w m) = ap Err (wrong_one v w (λ l. n _ l w) (λ l. m _ l v))
   told_one r s (refused v n) (readable m) = absurd (m _ v)
   told_one r s (readable n) (refused w m) = absurd (n _ w)
   told_one r s (readable n) (readable m) = refl
@@ -234,18 +233,18 @@ module _ (file : List ℕ) where
 pub refusals : Refusals
 refusals = record { told = λ file. told_short file (dec_lt (length file) rows_from); one = told_one }
 
-pub told_read : (file : List ℕ) {r : Reading} → reading file ≡ r → Told file r
+pub told_read : (file : List ℕ) {r : Result ⊤ Cause} → reading file ≡ r → Told file r
 told_read file e = rw e at (refusals.told file)
 
 -- a file is refused by one cause, or readable
-pub told_readable : (file : List ℕ) {c : Cause} → Told file (Refused c) → ¬ Told file Readable
+pub told_readable : (file : List ℕ) {c : Cause} → Told file (Err c) → ¬ Told file (Ok tt)
 told_readable file (refused w n) (readable m) = m _ w
 
-abbrev cause_in : Reading → Cause
-cause_in (Refused c) = c
-cause_in Readable = TooShort
+abbrev cause_in : Result ⊤ Cause → Cause
+cause_in (Err c) = c
+cause_in (Ok _) = TooShort
 
-pub same_cause : (file : List ℕ) {c d : Cause} → Told file (Refused c) → Told file (Refused d) → c ≡ d
+pub same_cause : (file : List ℕ) {c d : Cause} → Told file (Err c) → Told file (Err d) → c ≡ d
 same_cause file t u = ap cause_in (refusals.one file _ _ t u)
 
 -- what a file has whose contents part is right
@@ -264,7 +263,7 @@ module _ (file : List ℕ) (right : ¬ Wrong file WrongContents) where
       go (no n) = absurd (right (size n))
 
 -- the place of a refusal is that of a row or an event
-pub told_place : (file : List ℕ) (c : Cause) → Told file (Refused c) → place_of c ≤ row_limit
+pub told_place : (file : List ℕ) (c : Cause) → Told file (Err c) → place_of c ≤ row_limit
 told_place file c (refused w none) = go (placed file w) (wrong_number file w)
   where
     right : 5 ≤ number_of c → ¬ Wrong file WrongContents

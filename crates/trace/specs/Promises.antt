@@ -1,6 +1,6 @@
 -- What `trace` promises: the table has one answer, which is computed, and a file that is not refused has rows whose references lie below
 -- and are of the right kind, whose messages unfold by their kinds, and of which equal messages have equal numbers. Document 01, "The trace file".
-use Rattle.std.specs.Prelude.{ℕ, ◌<◌, ◌≤◌, true, List, ◌↔◌, ◌≡◌, length}
+use Rattle.std.specs.Prelude.{ℕ, ◌<◌, ◌≤◌, true, List, ◌↔◌, ◌≡◌, length, Result, Ok, ⊤}
 use Rattle.paper.specs.Message as paper
 use Rattle.trace.specs.File.{row_limit, event_limit, agent_limit, rows_of, events_of}
 use Rattle.trace.specs.Rows.{fields_at, KeepsLine, SameBytes}
@@ -20,14 +20,13 @@ use Rattle.trace.specs.declared.Row.{Row}
 use Rattle.trace.specs.declared.Row.TheVariants.{Agent, Number, Nonce, Prf, PublicKey, PrivateKey, SessionKey, Hash, Crypt, Pair}
 use Rattle.trace.specs.declared.Event.{Event}
 use Rattle.trace.specs.declared.Event.TheVariants.{Says, Notes}
+use Rattle.trace.specs.declared.Cause.{Cause}
 use Rattle.trace.specs.declared.Cause.TheVariants.{WrongVersion, WrongSet, WrongContents}
-use Rattle.trace.specs.declared.Reading.{Reading}
-use Rattle.trace.specs.declared.Reading.TheVariants.{Readable}
 
 -- one answer, and only one
 pub record Refusals : Type 0 where
   pub told : (file : List ℕ) → Told file (reading file)
-  pub one : (file : List ℕ) (r s : Reading) → Told file r → Told file s → r ≡ s
+  pub one : (file : List ℕ) (r s : Result ⊤ Cause) → Told file r → Told file s → r ≡ s
 
 -- the tests are exact, and rows are equal in their eight bytes exactly when their five numbers are
 pub record Tested : Type 0 where
@@ -109,7 +108,7 @@ pub record Promised (file : List ℕ) : Type 0 where
   pub apart : (r s : ℕ) → r < rows_of file → s < rows_of file → message file r ≡ message file s → r ≡ s
 
 abbrev pub Promises : Type 0
-Promises = (file : List ℕ) → Told file Readable → Promised file
+Promises = (file : List ℕ) → Told file (Ok tt) → Promised file
 
 -- a Number and a Nonce of one value never match
 abbrev pub KeptApart : Type 0

@@ -1,5 +1,5 @@
 -- Refusals 1 to 7: the table of document 01, "Questions and their replies", line by line.
-use Rattle.std.specs.Prelude.{ℕ, ◌+◌, ◌*◌, ◌<◌, List, ◌≡◌, length}
+use Rattle.std.specs.Prelude.{ℕ, ◌+◌, ◌*◌, ◌<◌, List, ◌≡◌, length, Result, Ok, Err, ⊤}
 use Rattle.paper.specs.Message.{Spy, Authority}
 use Rattle.trace.specs.File.{word, row_limit, event_limit, rows_from, rows_of, events_of, events_from}
 use Rattle.trace.specs.Rows.{KeepsLine, SameBytes}
@@ -7,8 +7,6 @@ use Rattle.trace.specs.Events.{KeepsEventLine}
 use Rattle.trace.specs.Meaning.{bad}
 use Rattle.trace.specs.declared.Cause.{Cause}
 use Rattle.trace.specs.declared.Cause.TheVariants.{TooShort, WrongVersion, WrongSet, WrongContents, BadRow, RepeatedRow, BadEvent, ShortBuffer, TooManyEvents}
-use Rattle.trace.specs.declared.Reading.{Reading}
-use Rattle.trace.specs.declared.Reading.TheVariants.{Refused, Readable}
 
 -- the number and the place of each cause
 abbrev pub refusal_of : Cause → ℕ × ℕ
@@ -61,6 +59,6 @@ pub data Wrong (file : List ℕ) : Cause → Type 0 where
   event : {e : ℕ} → Lowest (λ d. ¬ KeepsEventLine file d) (events_of file) e → Wrong file (BadEvent (record { 0 = e }))
 
 -- .. and the lowest number applies
-pub data Told (file : List ℕ) : Reading → Type 0 where
-  refused : {c : Cause} → Wrong file c → ((d : Cause) → number_of d < number_of c → ¬ Wrong file d) → Told file (Refused c)
-  readable : ((c : Cause) → ¬ Wrong file c) → Told file Readable
+pub data Told (file : List ℕ) : Result ⊤ Cause → Type 0 where
+  refused : {c : Cause} → Wrong file c → ((d : Cause) → number_of d < number_of c → ¬ Wrong file d) → Told file (Err c)
+  readable : ((c : Cause) → ¬ Wrong file c) → Told file (Ok tt)

@@ -1,12 +1,11 @@
 -- Where the part at fault lies, computed for every file: nothing where the file ends before the part does.
 -- No promise has to be believed because of this page: of a refusal that is told, the part is there (`FaultsInside`, `FaultsFit`).
-use Rattle.std.specs.Prelude.{ℕ, ◌+◌, ◌*◌, ◌≤◌, List, ◌≡◌, leb, length}
+use Rattle.std.specs.Prelude.{ℕ, ◌+◌, ◌*◌, ◌≤◌, List, ◌≡◌, leb, length, Err}
 use Rattle.trace.specs.File.{rows_from, row_limit, event_limit, events_from}
 use Rattle.laws.specs.Choose.{choose}
 use Rattle.trace.specs.Part.{nothing}
 use Rattle.trace.specs.Refusal.{number_of, Told}
 use Rattle.trace.specs.declared.Span.{Span}
-use Rattle.trace.specs.declared.Reading.TheVariants.{Refused}
 use Rattle.trace.specs.declared.Cause.{Cause}
 use Rattle.trace.specs.declared.Cause.TheVariants.{TooShort, WrongVersion, WrongSet, WrongContents, BadRow, RepeatedRow, BadEvent, ShortBuffer, TooManyEvents}
 
@@ -44,8 +43,8 @@ pub record Inside (file : List ℕ) (span : Span) : Type 0 where
 
 -- every refusal's span is one
 abbrev pub FaultsInside : Type 0
-FaultsInside = (file : List ℕ) (c : Cause) → Told file (Refused c) → Inside file (fault_of file c)
+FaultsInside = (file : List ℕ) (c : Cause) → Told file (Err c) → Inside file (fault_of file c)
 
 -- refusals 5 to 7 name eight bytes of the file
 abbrev pub FaultsFit : Type 0
-FaultsFit = (file : List ℕ) (c : Cause) → Told file (Refused c) → 5 ≤ number_of c → (fault_of file c).size ≡ 8
+FaultsFit = (file : List ℕ) (c : Cause) → Told file (Err c) → 5 ≤ number_of c → (fault_of file c).size ≡ 8

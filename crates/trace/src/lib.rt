@@ -74,12 +74,6 @@ pub enum Cause {
     TooManyEvents,
 }
 
-#[derive(Clone, Copy)]
-pub enum Reading {
-    Refused(Cause),
-    Readable,
-}
-
 // Where a part of the file starts, and how long it is.
 #[derive(Clone, Copy)]
 pub struct Span {

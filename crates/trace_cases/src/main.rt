@@ -2,7 +2,7 @@
 #![tactic(auto)]
 
 use std::io;
-use trace::{Cause, Reading};
+use trace::Cause;
 
 // A length, then four edits: a place and its new byte.
 const CASES: [[u16; 9]; 89] = [
@@ -219,8 +219,8 @@ fn run(rt: &impl Print, file: &[u8], size: u16) -> io::Result<()> {
     }
     let file = &file[0..len];
     match reading::read(file) {
-        Reading::Refused(cause) => print_refusal(rt, file, cause),
-        Reading::Readable => println!(rt; "readable"),
+        Err(cause) => print_refusal(rt, file, cause),
+        Ok(()) => println!(rt; "readable"),
     }
 }
 
