@@ -26,7 +26,7 @@ use Rattle.closure.specs.Closure.{known_after}
 use Rattle.used.specs.Marking.{used_after}
 use Rattle.forms.specs.Kinds.{crypt_in, pair_in, session_in, crypt_of, pair_of, session_of}
 use Rattle.forms.specs.Forms.{three_of, four_of, hello_of, reply_of, signed_of, sealed_of, verified_of}
-use Rattle.earlier.specs.declared.Heard.{Heard}
+use Rattle.earlier.specs.Heard.{Heard}
 use Rattle.earlier.specs.declared.Wanted.{Wanted}
 use Rattle.earlier.specs.declared.Wanted.TheVariants.{Under}
 use Rattle.earlier.specs.Earlier.{heard_at, past}
