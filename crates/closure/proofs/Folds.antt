@@ -1,9 +1,9 @@
--- The loops' definitions, one turn more, and what is left of settling.
+-- The loops' definitions, one turn more, what is left of settling, and the rows that a pass may leave out.
 -- Assumes nothing.
-use Prim.Native.Nat.{ℕ, zero, suc, ◌+◌, ◌-◌, ◌<◌}
+use Prim.Native.Nat.{ℕ, zero, suc, ◌+◌, ◌-◌, ◌<◌, ◌≤◌}
 use mathlib.Core.Bool.{Bool, true, false}
 use mathlib.Core.List.{List}
-use mathlib.Core.Path.{◌≡◌, refl, sym}
+use mathlib.Core.Path.{◌≡◌, refl, sym, ◌∙◌, ap}
 use native.Mathlib.Omega.{arith}
 use native.Mathlib.Numerals.{add-one}
 use Rattle.trace.specs.File.{row_limit, agent_limit, rows_of, compromised_in}
@@ -11,7 +11,11 @@ use Rattle.laws.specs.Choose.{choose}
 use Rattle.trace.specs.Events.{event_at}
 use Rattle.trace.specs.Kinds.{row_at}
 use Rattle.closure.specs.declared.Known.{Known}
-use Rattle.closure.specs.Closure.{see_event, known_after, State, state_of, know, up_rows, down_rows, pass_rows, settle, start_keys, key_known, mark_row, start_rows}
+use Rattle.closure.specs.Closure.{see_event, known_after, State, state_of, know, up_rows, down_rows, pass_rows, settle, start_keys, key_known, mark_row, start_rows, reopens, reopen_row, Reaches}
+use mathlib.Core.Logic.{◌⊎◌, inl, inr}
+use borrow.Author.Tests.{le-ltb}
+use Rattle.laws.proofs.Both.{or_none}
+use Rattle.laws.proofs.First.{bool_cases}
 
 module _ (file : List ℕ) where
   pass_on : (n : ℕ) (rows keys : List ℕ) → (up_rows file n rows keys).fresh ≡ true →
@@ -34,6 +38,46 @@ module _ (file : List ℕ) where
   pass_ended n rows keys rs ks u z =
       let e : (up_rows file n rows keys).fresh ≡ false = rw (← u) z in
       rw (pass_over n rows keys e, ← z) u
+
+  -- a last row that is no marked Crypt may be left out of a pass
+  module _ (n : ℕ) (none : (rs : List ℕ) → reopens file rs n ≡ false) where
+    up_less : (rs ks : List ℕ) → up_rows file n rs ks ≡ up_rows file (suc n) rs ks
+    unfolding up_rows
+    up_less rs ks =
+        let s = up_rows file n rs ks in
+        rw (none s.rows, reopen_row, or_none s.fresh) refl
+
+    down_less : (rs ks : List ℕ) → down_rows file n rs ks ≡ down_rows file (suc n) rs ks
+    unfolding down_rows
+    down_less rs ks = rw (none rs, reopen_row) refl
+
+    pass_suc : (rs ks : List ℕ) → pass_rows file n rs ks ≡ pass_rows file (suc n) rs ks
+    unfolding pass_rows
+    pass_suc rs ks = go (bool_cases (up_rows file n rs ks).fresh)
+      where
+        go : ((up_rows file n rs ks).fresh ≡ true) ⊎ ((up_rows file n rs ks).fresh ≡ false) → pass_rows file n rs ks ≡ pass_rows file (suc n) rs ks
+        go (inl e) =
+            let s = up_rows file n rs ks in
+            pass_on n rs ks e ∙ down_less s.rows s.keys ∙ rw (up_less rs ks) (sym (pass_on (suc n) rs ks (rw (← up_less rs ks) e)))
+        go (inr e) = pass_over n rs ks e ∙ up_less rs ks ∙ sym (pass_over (suc n) rs ks (rw (← up_less rs ks) e))
+
+  -- a row past the marks is none
+  none_past : (r : ℕ) → row_limit ≤ r → (rs : List ℕ) → reopens file rs r ≡ false
+  none_past r l rs = rw (le-ltb r row_limit l) refl
+
+  pass_past : (k : ℕ) (rs ks : List ℕ) → pass_rows file row_limit rs ks ≡ pass_rows file (row_limit + k) rs ks
+  pass_past zero rs ks = refl
+  pass_past (suc k) rs ks =
+      let q : suc (row_limit + k) ≡ row_limit + suc k = omega arith in
+      pass_past k rs ks ∙ pass_suc (row_limit + k) (none_past (row_limit + k) (omega arith)) rs ks ∙ ap (λ (m : ℕ). pass_rows file m rs ks) q
+
+  pub reaches_all : (n : ℕ) → n ≡ rows_of file → Reaches file n
+  reaches_all n e rs ks = rw e refl
+
+  pub reaches_marks : (n : ℕ) → n ≡ rows_of file → row_limit < n → Reaches file row_limit
+  reaches_marks n e l rs ks =
+      let q : row_limit + (rows_of file - row_limit) ≡ rows_of file = omega (arith, e) in
+      pass_past (rows_of file - row_limit) rs ks ∙ ap (λ (m : ℕ). pass_rows file m rs ks) q
 
   pub keys_more : (a : ℕ) (keys ks ks' : List ℕ) → ks ≡ start_keys file a keys →
       ks' ≡ choose (compromised_in file a) (know ks (agent_limit + a)) ks → ks' ≡ start_keys file (a + 1) keys

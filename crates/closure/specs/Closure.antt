@@ -1,5 +1,5 @@
 -- Closing, as the code does it: document 01, "What the spy sees". Marks are 1; public keys stand at 0 to 63, private ones at 64 to 127.
-use Rattle.std.specs.Prelude.{ℕ, zero, suc, ◌+◌, ◌*◌, Bool, true, false, ◌&&◌, ◌||◌, List, eqb, ltb, leb, get_or, set, replicate}
+use Rattle.std.specs.Prelude.{ℕ, zero, suc, ◌+◌, ◌*◌, Bool, true, false, ◌&&◌, ◌||◌, List, eqb, ltb, leb, get_or, set, replicate, ◌≡◌}
 use Rattle.trace.specs.File.{row_limit, agent_limit, rows_of, compromised_in}
 use Rattle.laws.specs.Choose.{choose}
 use Rattle.trace.specs.Events.{event_at}
@@ -152,6 +152,10 @@ unfoldable pub pass_rows : List ℕ → ℕ → (rows keys : List ℕ) → State
 pass_rows file n rows keys =
     let s = up_rows file n rows keys in
     elim s.fresh [ true ↦ down_rows file n s.rows s.keys | false ↦ s ]
+
+-- a pass over n rows does what one over all does
+abbrev pub Reaches : List ℕ → ℕ → Type 0
+Reaches file n = (rows keys : List ℕ) → pass_rows file n rows keys ≡ pass_rows file (rows_of file) rows keys
 
 -- passes over all rows, as long as a key became known in the last one
 unfoldable pub settle : List ℕ → ℕ → State → State

@@ -4,7 +4,7 @@
 ghost use Rattle.std.specs.Prelude.{true, ◌≡◌, suc, length, set};
 ghost use Rattle.trace.specs.File.{agent_limit, rows_of};
 ghost use Rattle.trace.specs.Events.{event_at};
-ghost use Rattle.closure.specs.Closure.{state_of, marked, row_marked, opens, below, learn_row, reopen_row, up_rows, down_rows, pass_rows, see_row, see_event, start_keys, key_known, start_rows, known_after};
+ghost use Rattle.closure.specs.Closure.{state_of, marked, row_marked, opens, below, learn_row, reopen_row, up_rows, down_rows, pass_rows, Reaches, see_row, see_event, start_keys, key_known, start_rows, known_after};
 
 use trace::limits::{AGENT_LIMIT, AGENTS, ROW_LIMIT, ROWS};
 use trace::{AgentNo, Event, EventNo, Row, RowNo};
@@ -44,6 +44,14 @@ pub fn row_marked(rows: &[u8; ROW_LIMIT], r: u16) -> bool
     ensures { result ≡ row_marked rows.now r }
 {
     marked(rows, usize::from(r))
+}
+
+// The rows that a pass looks at: one past the marks is never known, and a file that was read has none.
+fn reach(file: &[u8]) -> u16
+    ensures { Reaches file.now result }
+{
+    let n = trace::row_count(file);
+    if ROWS < n { ROWS } else { n }
 }
 
 impl Known {
@@ -181,7 +189,9 @@ impl Known {
     {
         let mut fresh = false;
         for r in 0..n {
-            fresh |= self.reopen(file, r);
+            if self.reopen(file, r) {
+                fresh = true;
+            }
         }
         fresh
     }
@@ -203,7 +213,7 @@ impl Known {
         ensures { state_of self.new.rows self.new.keys result ≡
             pass_rows file.now (rows_of file.now) self.old.rows self.old.keys }
     {
-        let n = trace::row_count(file);
+        let n = reach(file);
         let found = self.pass_up(file, n);
         if found {
             self.pass_down(file, n);

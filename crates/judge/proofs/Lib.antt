@@ -7,6 +7,5 @@ pub mod Right
 pub mod Least
 pub mod Judges
 pub mod Faults
-pub mod Replies
 pub mod Cases
 pub mod Idle

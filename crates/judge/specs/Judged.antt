@@ -56,14 +56,10 @@ pub data Judged (file before : List ℕ) : Result Verdict Cause → List ℕ →
 
 -- document 01's number and place of a refusal, 0 for none; and the length of the longest accepted beginning
 abbrev pub verdict_number : Result Verdict Cause → ℕ
-verdict_number (Err c) = number_of c
-verdict_number (Ok _) = 0
+verdict_number v = elim v [ Err c ↦ number_of c | Ok _ ↦ 0 ]
 
 abbrev pub verdict_place : Result Verdict Cause → ℕ
-verdict_place (Err c) = place_of c
-verdict_place (Ok _) = 0
+verdict_place v = elim v [ Err c ↦ place_of c | Ok _ ↦ 0 ]
 
 abbrev pub verdict_length : Result Verdict Cause → ℕ
-verdict_length (Err c) = 0
-verdict_length (Ok (Illegal n)) = n
-verdict_length (Ok (Accepted n)) = n
+verdict_length v = elim v [ Err c ↦ 0 | Ok w ↦ elim w [ Illegal n ↦ n | Accepted n ↦ n ] ]

@@ -11,7 +11,9 @@ use trace::header::header_of;
 use trace::limits::ROWS_AT;
 use trace::{Cause, EventNo, RowNo};
 
-// The rows and events of a file whose contents part is right.
+// The rows and events of a file whose contents part is right. Kept apart, so that what the first bytes refuse is
+// refused before any room is made for the rows.
+#[inline(never)]
 #[tactic(auto, using(repeats::proofs::Chain::first_few), unfolding(trace::specs::Reading::read_items, laws::specs::First::found))]
 fn read_items(file: &[u8], rows: u16, events: u16) -> Result<(), Cause>
     requires { rows ≤ row_limit }
@@ -29,8 +31,7 @@ fn read_items(file: &[u8], rows: u16, events: u16) -> Result<(), Cause>
     Ok(())
 }
 
-// Refused with its cause and place, or readable. What the first bytes refuse is refused before any room is made for
-// the rows.
+// Refused with its cause and place, or readable.
 #[tactic(auto, unfolding(trace::specs::Reading::reading))]
 pub fn read(file: &[u8]) -> Result<(), Cause>
     ensures { result ≡ reading file.now }

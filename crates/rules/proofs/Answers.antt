@@ -22,7 +22,7 @@ use Rattle.earlier.specs.Earlier.{heard_at, past}
 use Rattle.rules.specs.Tests.{key_exchange, cert_verify}
 use Rattle.earlier.proofs.Meant.{says_meant, notes_meant, says_told, notes_told, not_later, here_row}
 use Rattle.earlier.proofs.Premises.{event_same, says_same, notes_same, crypt_same, nonce_one, one_row, note_same, reply_with_sound, reply_with_complete, cert_sound, cert_complete, secret_sound, secret_complete}
-use Rattle.rules.proofs.Steps.{Rights, Fits, Passes, fresh_sound, fresh_complete}
+use Rattle.rules.proofs.Steps.{Rights, ByRule, Passes, fresh_sound, fresh_complete}
 
 verify_same : {A A' B B' : paper.agent} {N S : paper.nonce} → A ≡ A' → B ≡ B' →
     paper.Crypt (paper.pri_k A) (paper.Hash (paper.Pair (paper.Nonce N) (paper.Pair (paper.Agent B) (paper.Nonce S)))) ≡
@@ -93,7 +93,7 @@ module _ (file : List ℕ) (P : Promised file) (e : ℕ) (le : e < events_of fil
   abbrev h : Heard
   h = heard_at file e
 
-  pub cert_verify_sound : cert_verify file (past file e) h ≡ true → Fits file P e le 7
+  pub cert_verify_sound : cert_verify file (past file e) h ≡ true → ByRule file P e le 7
   unfolding cert_verify
   cert_verify_sound t =
       let m = verified_of file h.row in
@@ -108,7 +108,7 @@ module _ (file : List ℕ) (P : Promised file) (e : ℕ) (le : e < events_of fil
       says_same refl refl (g.2.whole ∙ verify_same (eqb-true _ _ c.1) (eqb-true _ _ c.2)))
       (CertVerify i.3 j)
 
-  pub cert_verify_complete : Fits file P e le 7 → cert_verify file (past file e) h ≡ true
+  pub cert_verify_complete : ByRule file P e le 7 → cert_verify file (past file e) h ≡ true
   unfolding cert_verify
   cert_verify_complete s = go _ refl s
     where

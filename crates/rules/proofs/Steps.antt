@@ -50,8 +50,8 @@ module _ (file : List ℕ) (P : Promised file) (e : ℕ) (le : e < events_of fil
   here = here_row file P e le
 
   -- rule n puts event e there
-  abbrev pub Fits : ℕ → Type 0
-  Fits n = Step (bad file) (beginning file e) (event_meant file (event_at file e)) n
+  abbrev pub ByRule : ℕ → Type 0
+  ByRule n = Step (bad file) (beginning file e) (event_meant file (event_at file e)) n
 
   -- a test passes of each event that is meant by event e, and that rule n puts there
   abbrev pub Passes : ℕ → Bool → Type 0
@@ -71,13 +71,13 @@ module _ (file : List ℕ) (P : Promised file) (e : ℕ) (le : e < events_of fil
         let f = refuted (row_marked used x) (λ m. u (rw h.meant at ((R.used_right x h.row).0 m))) in
         both_true ((shapes file P).plain_complete x h.row h.meant) (ap not f)
 
-    pub fake_sound : fake file known h ≡ true → Fits 1
+    pub fake_sound : fake file known h ≡ true → ByRule 1
     unfolding fake
     fake_sound t =
         let b = both3 _ _ _ t in
         event_same (says_meant file (event_at file e) b.0 ∙ says_same (eqb-true _ _ b.1) refl refl) (Fake ((R.made_right h.row here).0 b.2))
 
-    pub fake_complete : Fits 1 → fake file known h ≡ true
+    pub fake_complete : ByRule 1 → fake file known h ≡ true
     unfolding fake
     fake_complete s = go _ refl s
       where
@@ -86,7 +86,7 @@ module _ (file : List ℕ) (P : Promised file) (e : ℕ) (le : e < events_of fil
             let t = says_told file (event_at file e) q in
             rw (t.0, eq-eqb h.from 0 t.1, (R.made_right h.row here).1 (rw t.3 s)) refl
 
-    pub certificate_sound : certificate file h ≡ true → Fits 5
+    pub certificate_sound : certificate file h ≡ true → ByRule 5
     unfolding certificate
     certificate_sound t =
         let m = signed_of file h.row in
@@ -100,7 +100,7 @@ module _ (file : List ℕ) (P : Promised file) (e : ℕ) (le : e < events_of fil
         says_same refl refl (g.1.whole ∙ cert_same (eqb-true _ _ c.1) o))
         Certificate
 
-    pub certificate_complete : Fits 5 → certificate file h ≡ true
+    pub certificate_complete : ByRule 5 → certificate file h ≡ true
     unfolding certificate
     certificate_complete s = go _ refl s
       where
@@ -113,7 +113,7 @@ module _ (file : List ℕ) (P : Promised file) (e : ℕ) (le : e < events_of fil
             let p = (shapes file P).public_complete m.key g.key.row g.key.meant in
             rw (t.0, g.flag, eq-eqb m.agent h.from (g.agent ∙ sym t.1), p.flag, eq-eqb k.first h.from (p.agent ∙ sym t.1)) refl
 
-    pub client_hello_sound : client_hello file used h ≡ true → Fits 3
+    pub client_hello_sound : client_hello file used h ≡ true → ByRule 3
     unfolding client_hello
     client_hello_sound t =
         let m = hello_of file h.row in
@@ -126,7 +126,7 @@ module _ (file : List ℕ) (P : Promised file) (e : ℕ) (le : e < events_of fil
         says_same refl refl (g.3.whole ∙ hello_same (eqb-true _ _ c.1) (nonce_one (sym g.3.na.meant ∙ f.1)) refl refl))
         (ClientHello f.2)
 
-    pub client_hello_complete : Fits 3 → client_hello file used h ≡ true
+    pub client_hello_complete : ByRule 3 → client_hello file used h ≡ true
     unfolding client_hello
     client_hello_complete s = go _ refl s
       where
@@ -137,7 +137,7 @@ module _ (file : List ℕ) (P : Promised file) (e : ℕ) (le : e < events_of fil
             let g = (shapes file P).hello_complete h.row here t.3 in
             rw (t.0, g.flag, eq-eqb m.agent h.from (g.agent ∙ sym t.1), fresh_complete m.na Na g.na u) refl
 
-    pub spy_keys_sound : spy_keys file known h ≡ true → Fits 2
+    pub spy_keys_sound : spy_keys file known h ≡ true → ByRule 2
     unfolding spy_keys
     spy_keys_sound t =
         let d = derived_of file h.row in
@@ -151,7 +151,7 @@ module _ (file : List ℕ) (P : Promised file) (e : ℕ) (le : e < events_of fil
         (rw g.4.na.meant at ((R.known_right d.na g.4.na.row).0 c.2))
         (rw g.4.nb.meant at ((R.known_right d.nb g.4.nb.row).0 c.3)))
 
-    pub spy_keys_complete : Fits 2 → spy_keys file known h ≡ true
+    pub spy_keys_complete : ByRule 2 → spy_keys file known h ≡ true
     unfolding spy_keys
     spy_keys_complete s = go _ refl s
       where
@@ -165,7 +165,7 @@ module _ (file : List ℕ) (P : Promised file) (e : ℕ) (le : e < events_of fil
             let k = (R.known_right d.nb g.nb.row).1 (rw g.nb.meant z) in
             rw (t.0, eq-eqb h.from 0 t.1, g.flag, i, j, k) refl
 
-    pub oops_sound : oops file (past file e) h ≡ true → Fits 14
+    pub oops_sound : oops file (past file e) h ≡ true → ByRule 14
     unfolding oops
     oops_sound t =
         let b = both4 _ _ _ _ t in
@@ -173,7 +173,7 @@ module _ (file : List ℕ) (P : Promised file) (e : ℕ) (le : e < events_of fil
         let u = under_sound file P e (not_later file P e le) h.from h.row b.3 (record { row = here; meant = g.whole }) in
         event_same (says_meant file (event_at file e) b.0 ∙ says_same refl (eqb-true _ _ b.1) g.whole) (Oops u.2)
 
-    pub oops_complete : Fits 14 → oops file (past file e) h ≡ true
+    pub oops_complete : ByRule 14 → oops file (past file e) h ≡ true
     unfolding oops
     oops_complete s = go _ refl s
       where
@@ -184,7 +184,7 @@ module _ (file : List ℕ) (P : Promised file) (e : ℕ) (le : e < events_of fil
             let u = under_complete file P e (not_later file P e le) h.from h.row (rw (← t.1) at i) (record { row = here; meant = t.3 }) in
             rw (t.0, eq-eqb h.to 0 t.2, g.flag, u) refl
 
-    pub server_hello_sound : server_hello file used (past file e) h ≡ true → Fits 4
+    pub server_hello_sound : server_hello file used (past file e) h ≡ true → ByRule 4
     unfolding server_hello
     server_hello_sound t =
         let m = reply_of file h.row in
@@ -198,7 +198,7 @@ module _ (file : List ℕ) (P : Promised file) (e : ℕ) (le : e < events_of fil
         says_same refl refl (g.3.whole ∙ reply_same (nonce_one (sym g.3.nb.meant ∙ f.1))))
         (ServerHello f.2 u.3)
 
-    pub server_hello_complete : Fits 4 → server_hello file used (past file e) h ≡ true
+    pub server_hello_complete : ByRule 4 → server_hello file used (past file e) h ≡ true
     unfolding server_hello
     server_hello_complete s = go _ refl s
       where

@@ -35,9 +35,7 @@ pub data Knows (file : List ℕ) (n : ℕ) (before : List ℕ) : Result ⊤ Caus
 
 -- document 01's number and place of an answer; 0 where nothing is refused
 abbrev pub answer_number : Result ⊤ Cause → ℕ
-answer_number (Err c) = number_of c
-answer_number (Ok _) = 0
+answer_number a = elim a [ Err c ↦ number_of c | Ok _ ↦ 0 ]
 
 abbrev pub answer_place : Result ⊤ Cause → ℕ
-answer_place (Err c) = place_of c
-answer_place (Ok _) = 0
+answer_place a = elim a [ Err c ↦ place_of c | Ok _ ↦ 0 ]

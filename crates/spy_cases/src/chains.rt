@@ -3,7 +3,9 @@ ghost use Rattle.std.specs.Prelude.{◌<◌};
 
 use super::files;
 use super::files::Kind;
-use trace::limits::ROWS;
+use trace::limits::{LONGEST_FILE, ROWS};
+
+pub type File = [u8; LONGEST_FILE];
 
 // The Spy alone; and with agent 3.
 const SPY: u8 = 1;
@@ -13,13 +15,15 @@ const SPY_AND_3: u8 = 9;
 const TOP: u16 = ROWS - 1;
 
 // Row 0, then each row the pair of the row below with itself; the top is said.
-pub fn pairs(file: &mut [u8], bottom: Kind) {
-    files::put_header(file, SPY, ROWS, 1);
-    files::put_row(file, 0, bottom, 10, 0, 0);
+pub fn pairs(bottom: Kind) -> File {
+    let mut file = [0; LONGEST_FILE];
+    files::put_header(&mut file, SPY, ROWS, 1);
+    files::put_row(&mut file, 0, bottom, 10, 0, 0);
     for r in 1..ROWS {
-        files::put_row(file, r, Kind::Pair, r - 1, r - 1, 0);
+        files::put_row(&mut file, r, Kind::Pair, r - 1, r - 1, 0);
     }
-    files::put_says(file, ROWS, 0, TOP);
+    files::put_says(&mut file, ROWS, 0, TOP);
+    file
 }
 
 // The key of a nested ciphertext: agent 3's public key in row 0, or the session key in row 2.
@@ -40,18 +44,22 @@ fn nested(file: &mut [u8], bottom: Kind, events: u16) {
 }
 
 // The outermost ciphertext is said, then the session key: what the key opens was there before it.
-pub fn opened(file: &mut [u8]) {
-    nested(file, Kind::Nonce, 2);
-    files::put_says(file, ROWS, 0, TOP);
-    files::put_says(file, ROWS, 1, 2);
+pub fn opened() -> File {
+    let mut file = [0; LONGEST_FILE];
+    nested(&mut file, Kind::Nonce, 2);
+    files::put_says(&mut file, ROWS, 0, TOP);
+    files::put_says(&mut file, ROWS, 1, 2);
+    file
 }
 
 // Both keys are said, which makes every ciphertext of a Number; then the outermost is said.
-pub fn made(file: &mut [u8]) {
-    nested(file, Kind::Number, 3);
-    files::put_says(file, ROWS, 0, 0);
-    files::put_says(file, ROWS, 1, 2);
-    files::put_says(file, ROWS, 2, TOP);
+pub fn made() -> File {
+    let mut file = [0; LONGEST_FILE];
+    nested(&mut file, Kind::Number, 3);
+    files::put_says(&mut file, ROWS, 0, 0);
+    files::put_says(&mut file, ROWS, 1, 2);
+    files::put_says(&mut file, ROWS, 2, TOP);
+    file
 }
 
 // Links: 8 nonces, then 508 session keys over them, then 507 ciphertexts, each of a key under its neighbour.
@@ -107,12 +115,14 @@ fn opening_key(falling: bool) -> u16 {
 }
 
 // All the ciphertexts are said, then the key that opens one.
-pub fn links(file: &mut [u8], falling: bool) {
-    files::put_header(file, SPY, LINK_ROWS, LINKS + 1);
-    nonces(file);
-    session_keys(file);
+pub fn links(falling: bool) -> File {
+    let mut file = [0; LONGEST_FILE];
+    files::put_header(&mut file, SPY, LINK_ROWS, LINKS + 1);
+    nonces(&mut file);
+    session_keys(&mut file);
     for i in 0..LINKS {
-        put_link(file, i, falling);
+        put_link(&mut file, i, falling);
     }
-    files::put_says(file, LINK_ROWS, LINKS, opening_key(falling));
+    files::put_says(&mut file, LINK_ROWS, LINKS, opening_key(falling));
+    file
 }

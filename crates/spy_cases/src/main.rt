@@ -5,10 +5,11 @@ mod chains;
 mod files;
 
 use cases::print;
+use chains::{LINK_ROWS, LINKS};
 use files::Kind;
 use std::io;
 use trace::Cause;
-use trace::limits::{LONGEST_FILE, ROW_LIMIT, ROWS};
+use trace::limits::{ROW_LIMIT, ROWS};
 
 // What of the sample is asked about: its first bytes, after changes of a place to a byte; n; and the room that is lent.
 #[derive(Clone, Copy)]
@@ -214,44 +215,13 @@ fn ask_long(
     Ok(())
 }
 
-fn ask_pairs(rt: &impl Print, case: usize, bottom: Kind) -> io::Result<()> {
-    let mut file = [0u8; LONGEST_FILE];
-    chains::pairs(&mut file, bottom);
-    ask_long(rt, case, &file, ROWS, 0, 1)
-}
-
-fn ask_opened(rt: &impl Print, case: usize) -> io::Result<()> {
-    let mut file = [0u8; LONGEST_FILE];
-    chains::opened(&mut file);
-    ask_long(rt, case, &file, ROWS, 0, 2)
-}
-
-fn ask_made(rt: &impl Print, case: usize) -> io::Result<()> {
-    let mut file = [0u8; LONGEST_FILE];
-    chains::made(&mut file);
-    ask_long(rt, case, &file, ROWS, 0, 3)
-}
-
-// Before the last event, and after it.
-fn ask_links(rt: &impl Print, case: usize, falling: bool) -> io::Result<()> {
-    let mut file = [0u8; LONGEST_FILE];
-    chains::links(&mut file, falling);
-    ask_long(
-        rt,
-        case,
-        &file,
-        chains::LINK_ROWS,
-        chains::LINKS,
-        chains::LINKS + 1,
-    )
-}
-
 fn main(rt: HostRuntime) -> io::Result<()> {
     ask_samples(&rt)?;
-    ask_pairs(&rt, 27, Kind::Nonce)?;
-    ask_pairs(&rt, 28, Kind::Number)?;
-    ask_opened(&rt, 29)?;
-    ask_made(&rt, 30)?;
-    ask_links(&rt, 31, true)?;
-    ask_links(&rt, 32, false)
+    ask_long(&rt, 27, &chains::pairs(Kind::Nonce), ROWS, 0, 1)?;
+    ask_long(&rt, 28, &chains::pairs(Kind::Number), ROWS, 0, 1)?;
+    ask_long(&rt, 29, &chains::opened(), ROWS, 0, 2)?;
+    ask_long(&rt, 30, &chains::made(), ROWS, 0, 3)?;
+    // before the last event, and after it
+    ask_long(&rt, 31, &chains::links(true), LINK_ROWS, LINKS, LINKS + 1)?;
+    ask_long(&rt, 32, &chains::links(false), LINK_ROWS, LINKS, LINKS + 1)
 }

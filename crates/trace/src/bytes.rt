@@ -19,7 +19,7 @@ pub fn word_at(file: &[u8], at: usize) -> u16
     u16::from_le_bytes([byte_at(file, at), byte_at(file, at + 1)])
 }
 
-// The same for a row or an event that the file may end before.
+// The eight bytes of a row or an event that the file ends before, or in.
 fn padded(file: &[u8], at: usize) -> [u8; ITEM]
     requires { at < 2000000 }
     ensures { ItemAt file.now at result }
@@ -31,7 +31,7 @@ fn padded(file: &[u8], at: usize) -> [u8; ITEM]
     item
 }
 
-// What is read from the eight bytes of a row or an event: by one test of the bound, where the file has them all.
+// What is read from the eight bytes of a row or an event. One test of the bound serves all of them: these are read most often.
 pub fn read_item<T, F: FnOnce([u8; ITEM]) -> T>(file: &[u8], at: usize, read: F) -> T
     requires in_range { at < 2000000 }
     requires callable { F.IsAlwaysCallable read }
