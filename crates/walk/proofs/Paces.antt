@@ -8,11 +8,11 @@ use native.Mathlib.Omega.{arith}
 use native.Mathlib.Decide.{dec_lt}
 use Rattle.std.specs.Prelude.{Some, None}
 use lib.Dec.{ltb}
-use lib.ListN.{set}
+use lib.ListN.{length, set, length-set}
 use borrow.Author.Tests.{lt-ltb, le-ltb, ltb-true}
 use Rattle.laws.specs.Choose.{choose}
 use Rattle.walk.specs.Lowest.{or_none, rule_of, exchange_of}
-use Rattle.walk.specs.Walk.{Walked, walked_to, walk, walkable, walk_file}
+use Rattle.walk.specs.Walk.{Walked, walked_to, walk, walkable, walk_file, cleared}
 use Rattle.walk.specs.Pace.{pace, paced}
 
 module _ (rule : ℕ → ℕ) (exchange : ℕ → Bool) (N : ℕ) where
@@ -104,6 +104,12 @@ module _ (rule : ℕ → ℕ) (exchange : ℕ → Bool) (N : ℕ) where
     omega arith,
     rw (p, b) (e ∙ walk_by d i bytes l ∙ by_go d i bytes (ltb 0 (rule i)) (ltb (suc i) N && exchange i) (λ q. z (p ∙ q))),
   )
+
+-- the cleared buffer
+pub cleared_length : (n : ℕ) (bytes : List ℕ) → length (cleared n bytes) ≡ length bytes
+unfolding cleared
+cleared_length zero bytes = refl
+cleared_length (suc n) bytes = length-set (cleared n bytes) n 0 ∙ cleared_length n bytes
 
 -- the step's number, and that there is one
 pub taken_some : (n k : ℕ) → or_none n ≡ Some k → (k ≡ n) × (0 < n)
