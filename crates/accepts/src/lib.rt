@@ -15,7 +15,7 @@ use trace::limits::{ROW_LIMIT, ROWS};
 use trace::{Event, EventNo, Role};
 
 // What two sides agree on, as one of them noted it: the agents by their numbers, and else rows.
-#[derive(Clone, Copy)]
+#[derive(Clone, Copy, PartialEq, Eq)]
 pub struct Session {
     pub sid: u16,
     pub a: u16,
@@ -65,15 +65,15 @@ fn said_finished(file: &[u8], event: Event, by: Side, s: Session) -> bool
     let Some(f) = forms::finished(file, row.0) else {
         return false;
     };
-    from.0 == by.from
-        && to.0 == by.to
-        && f.sid == s.sid
-        && f.a == s.a
-        && f.b == s.b
-        && f.m == s.m
-        && f.na == s.na
-        && f.nb == s.nb
-        && f.role == by.role
+    let of = Session {
+        sid: f.sid,
+        a: f.a,
+        b: f.b,
+        m: f.m,
+        na: f.na,
+        nb: f.nb,
+    };
+    from.0 == by.from && to.0 == by.to && of == s && f.role == by.role
 }
 
 // The hash of the Finished of that role is marked, if event j tells one to this agent.

@@ -18,7 +18,7 @@ const PRIVATE: usize = AGENT_LIMIT;
 
 // A mark for each analysed row, and one for each key that is known, public keys at 0 to 63 and private
 // ones at 64 to 127.
-#[derive(Clone, Copy)]
+#[derive(Drop)]
 pub struct Known {
     pub rows: [u8; ROW_LIMIT],
     pub keys: [u8; KEYS],
@@ -64,9 +64,18 @@ impl Known {
             rows: [0; ROW_LIMIT],
             keys: [0; KEYS],
         };
-        known.start_keys(file);
-        known.start_rows(file, trace::row_count(file));
+        known.see_start(file);
         known
+    }
+
+    // The same, added to any marks.
+    pub fn see_start(&mut self, file: &[u8])
+        ensures keys_after { self.new.keys ≡ start_keys file.now agent_limit self.old.keys }
+        ensures rows_after { self.new.rows ≡
+            start_rows file.now (start_keys file.now agent_limit self.old.keys) (rows_of file.now) self.old.rows }
+    {
+        self.start_keys(file);
+        self.start_rows(file, trace::row_count(file));
     }
 
     #[tactic(auto, unfolding(crate::specs::Closure::start_keys))]

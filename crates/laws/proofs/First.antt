@@ -53,7 +53,7 @@ module _ (p : ℕ → Bool) where
   -- what a search through the numbers below n gives
   pub found_is : (n : ℕ) (r : Option ℕ) →
       MatchOption r ((k : ℕ) → 0 ≤ k → k < n → p k ≡ false)
-          (λ i. (0 ≤ i) × (i < n) × (p i ≡ true) × ((k : ℕ) → 0 ≤ k → k < i → p k ≡ false)) →
+      (λ i. (0 ≤ i) × (i < n) × (p i ≡ true) × ((k : ℕ) → 0 ≤ k → k < i → p k ≡ false)) →
       r ≡ found p n
   found_is n None h = sym (found_none n (λ k l. h k (omega arith) l))
   found_is n (Some i) h = sym (found_some n i h.1 (λ k l. h.3 k (omega arith) l) h.2)

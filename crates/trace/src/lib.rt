@@ -127,12 +127,14 @@ pub fn compromised(file: &[u8], a: AgentNo) -> bool
     header::compromised(file, a.0)
 }
 
+#[inline(always)]
 pub fn row_at(file: &[u8], r: RowNo) -> Row
     ensures { result ≡ row_at file.now r.0 }
 {
     rows::row_of(rows::fields_at(file, r.0))
 }
 
+#[inline(always)]
 pub fn event_at(file: &[u8], e: EventNo) -> Event
     ensures { result ≡ event_at file.now e.0 }
 {
