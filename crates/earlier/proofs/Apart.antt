@@ -1,15 +1,15 @@
 -- No message has two of the shapes that are looked for.
 -- Assumes nothing.
 use Prim.Native.Nat.{ℕ}
-use mathlib.Core.Bool.{Bool, true, false, true≢false}
+use mathlib.Core.Bool.{true, false, true≢false}
 use mathlib.Core.List.{List}
 use mathlib.Core.Path.{◌≡◌, refl, sym, ◌∙◌, ap}
 use Rattle.std.specs.Prelude.{Option, Some, None}
 use Rattle.std.proofs.lemmas.Option.{none-some, same_Some}
 use Rattle.trace.specs.Kinds.{row_at}
 use Rattle.trace.specs.declared.Row.{Row}
-use Rattle.trace.specs.declared.Row.TheVariants.{Nonce, Prf, Pair, Crypt, Number, PublicKey, PrivateKey}
-use Rattle.laws.proofs.Both.{both3, refuted}
+use Rattle.trace.specs.declared.Row.TheVariants.{Pair, PublicKey}
+use Rattle.laws.proofs.Both.{both3}
 use Rattle.laws.proofs.Options.{Finds, finds, finding, one_found, and_then_some, then_some_true}
 use Rattle.forms.specs.Kinds.{agent_of, public_in, public_of, private_in, private_of, pair_in, pair_of, crypt_in, crypt_of, is_number_row, is_number, is_nonce_row, is_nonce}
 use Rattle.forms.specs.Forms.{three_of, four_of, hello_of, reply_of, kept_of, signed_of, remembered_of}

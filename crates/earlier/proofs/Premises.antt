@@ -10,7 +10,6 @@ use Rattle.paper.specs.Message as paper
 use Rattle.paper.specs.Event.{event, trace, In, Says, Notes}
 use Rattle.paper.specs.Rules.{Step, CH, SH, cert, secret_note, session_note}
 use Rattle.trace.specs.File.{rows_of, events_of}
-use Rattle.trace.specs.Events.{event_at}
 use Rattle.trace.specs.Meaning.{message, beginning, as_nonce, as_key}
 use Rattle.trace.specs.Promises.{Promised}
 use Rattle.laws.proofs.First.{any_some, any_inv}

@@ -31,8 +31,8 @@ clear_card None None = card.Other
 abbrev pub said_card : List ℕ → ℕ → Card
 said_card file r =
     elim (crypt_of file r) [
-      Some c ↦ crypt_card c (signed_of file r) (public_of file c.key) |
-      None ↦ clear_card (hello_of file r) (reply_of file r)
+      | Some c ↦ crypt_card c (signed_of file r) (public_of file c.key)
+      | None ↦ clear_card (hello_of file r) (reply_of file r)
     ]
 
 -- what is noted: {Agent B, PMS}, a session, or none

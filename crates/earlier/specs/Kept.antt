@@ -35,8 +35,8 @@ is_again file e link h = ltb 0 link && ltb link (e + 1) && same_heard (heard_at 
 abbrev pub seal_mark : List ℕ → Bool → ℕ → ℕ
 seal_mark file server r =
     elim (sealed_of file r) [
-      Some f ↦ choose (choose server (server_in f.role) (not (server_in f.role))) (choose (ltb f.hash row_limit) (f.hash + 1) 65535) 0 |
-      None ↦ 0
+      | Some f ↦ choose (choose server (server_in f.role) (not (server_in f.role))) (choose (ltb f.hash row_limit) (f.hash + 1) 65535) 0
+      | None ↦ 0
     ]
 
 abbrev pub seal_at : Boxes → Bool → ℕ → ℕ
