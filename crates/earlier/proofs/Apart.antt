@@ -1,117 +1,165 @@
 -- No message has two of the shapes that are looked for.
 -- Assumes nothing.
 use Prim.Native.Nat.{ℕ}
-use mathlib.Core.Bool.{Bool, true, false, true≢false}
+use mathlib.Core.Bool.{true, false, true≢false}
 use mathlib.Core.List.{List}
-use mathlib.Core.Path.{◌≡◌, refl, sym, ◌∙◌}
-use lib.Dec.{eqb}
-use Rattle.paper.specs.Message.{Authority}
+use mathlib.Core.Path.{◌≡◌, refl, sym, ◌∙◌, ap}
+use Rattle.std.specs.Prelude.{Option, Some, None}
+use Rattle.std.proofs.lemmas.Option.{none-some, same_Some}
 use Rattle.trace.specs.Kinds.{row_at}
 use Rattle.trace.specs.declared.Row.{Row}
-use Rattle.trace.specs.declared.Row.TheVariants.{Number, Nonce, Prf, PublicKey, Pair}
-use Rattle.laws.proofs.Both.{both, both3, both4, refuted}
-use Rattle.forms.specs.Kinds.{agent_of, public_in, public_of, private_in, private_of, pair_in, pair_of, crypt_in, crypt_of, is_number_row, is_number, is_nonce_row, is_nonce, is_key}
+use Rattle.trace.specs.declared.Row.TheVariants.{Pair, PublicKey}
+use Rattle.laws.proofs.Both.{both3}
+use Rattle.laws.proofs.Options.{Finds, finds, finding, one_found, and_then_some, then_some_true}
+use Rattle.forms.specs.Kinds.{agent_of, public_in, public_of, private_in, private_of, pair_in, pair_of, crypt_in, crypt_of, is_number_row, is_number, is_nonce_row, is_nonce}
 use Rattle.forms.specs.Forms.{three_of, four_of, hello_of, reply_of, kept_of, signed_of, remembered_of}
-use Rattle.forms.proofs.Flags.{Holds, holds, held, both5, both6}
+use Rattle.forms.specs.declared.leaves.Crypt as leaf
+use Rattle.forms.specs.declared.Hello.{Hello}
+use Rattle.forms.specs.declared.Reply.{Reply}
+use Rattle.forms.specs.declared.Kept.{Kept}
+use Rattle.forms.specs.declared.Signed.{Signed}
+use Rattle.forms.specs.declared.Remembered.{Remembered}
+
+-- what is nothing finds nothing
+pub unfound : {A B : Type 0} {o : Option A} {x : A} → o ≡ None → o ≡ Some x → B
+unfound {x = x} n s = absurd (none-some x (sym n ∙ s))
+
+nothing : {A : Type 0} {o : Option A} → ((x : A) → o ≡ Some x → ⊥) → o ≡ None
+nothing {o = Some x} n = absurd (n x refl)
+nothing {o = None} n = refl
 
 -- two kinds of one row
-pair_crypt : (R : Row) → Holds (pair_in R).is → (crypt_in R).is ≡ false
-pair_crypt (Pair x y) holds = refl
-pair_crypt _ h = elim h [ ]
+pair_crypt : (R : Row) {p : ℕ × ℕ} → Finds (pair_in R) p → crypt_in R ≡ None
+pair_crypt (Pair x y) finds = refl
+pair_crypt _ f = elim f [ ]
 
-number_pair : (R : Row) → Holds (is_number_row R) → (pair_in R).is ≡ false
-number_pair (Number x) holds = refl
-number_pair _ h = elim h [ ]
+pair_number : (R : Row) {p : ℕ × ℕ} → Finds (pair_in R) p → is_number_row R ≡ false
+pair_number (Pair x y) finds = refl
+pair_number _ f = elim f [ ]
 
-nonce_pair : (R : Row) → Holds (is_nonce_row R) → (pair_in R).is ≡ false
-nonce_pair (Nonce x) holds = refl
-nonce_pair (Prf x y z) holds = refl
-nonce_pair _ h = elim h [ ]
+pair_nonce : (R : Row) {p : ℕ × ℕ} → Finds (pair_in R) p → is_nonce_row R ≡ false
+pair_nonce (Pair x y) finds = refl
+pair_nonce _ f = elim f [ ]
 
-public_private : (R : Row) → Holds (public_in R).is → (private_in R).is ≡ false
-public_private (PublicKey x) holds = refl
-public_private _ h = elim h [ ]
+public_private : (R : Row) {a : ℕ} → Finds (public_in R) a → private_in R ≡ None
+public_private (PublicKey x) finds = refl
+public_private _ f = elim f [ ]
 
-clash : {A : Type 0} {b : Bool} → b ≡ false → b ≡ true → A
-clash f t = absurd (true≢false (sym t ∙ f))
+module _ (file : List ℕ) where
+  no_crypt : (r : ℕ) {p : ℕ × ℕ} → pair_of file r ≡ Some p → crypt_of file r ≡ None
+  unfolding pair_of crypt_of
+  no_crypt r e = pair_crypt (row_at file r) (finding e)
+
+  no_number : (r : ℕ) {p : ℕ × ℕ} → pair_of file r ≡ Some p → is_number file r ≡ true → ⊥
+  unfolding pair_of is_number
+  no_number r e t = true≢false (sym t ∙ pair_number (row_at file r) (finding e))
+
+  no_nonce : (r : ℕ) {p : ℕ × ℕ} → pair_of file r ≡ Some p → is_nonce file r ≡ true → ⊥
+  unfolding pair_of is_nonce
+  no_nonce r e t = true≢false (sym t ∙ pair_nonce (row_at file r) (finding e))
+
+  no_private : (k : ℕ) {a : ℕ} → public_of file k ≡ Some a → private_of file k ≡ None
+  unfolding public_of private_of
+  no_private k e = public_private (row_at file k) (finding e)
 
 module _ (file : List ℕ) (r : ℕ) where
-  -- the rows of a chain of pairs
-  abbrev second : ℕ
-  second = (pair_of file r).second
-
-  abbrev third : ℕ
-  third = (pair_of file second).second
-
-  no_crypt : (pair_of file r).is ≡ true → (crypt_of file r).is ≡ false
-  unfolding pair_of crypt_of
-  no_crypt t = pair_crypt (row_at file r) (held t)
-
-  hello_pairs : (hello_of file r).is ≡ true → ((pair_of file r).is ≡ true) × ((pair_of file third).is ≡ true)
+  -- pairs that begin at the row, and what the last of them holds
+  hello_pairs : {m : Hello} → hello_of file r ≡ Some m →
+      (p : ℕ × ℕ) × (q : ℕ × ℕ) × (s : ℕ × ℕ) × (pair_of file r ≡ Some p) × (pair_of file p.1 ≡ Some q) × (pair_of file q.1 ≡ Some s)
   unfolding hello_of four_of three_of
-  hello_pairs t =
-      let f = four_of file r in
-      let c = both5 f.is (agent_of file f.first).is (is_nonce file f.second) (is_number file f.third) (is_number file f.fourth) t in
-      let p = both (pair_of file r).is (three_of file second).is c.0 in
-      (p.0, (both (pair_of file second).is (pair_of file third).is p.1).1)
+  hello_pairs h =
+      let (f, ef, hf) = and_then_some h in
+      let (p, ep, hp) = and_then_some ef in
+      let (t, et, ht) = and_then_some hp in
+      let (q, eq, hq) = and_then_some et in
+      let (s, es, hs) = and_then_some hq in
+      (p, q, s, ep, eq, es)
 
-  reply_pairs : (reply_of file r).is ≡ true → ((pair_of file r).is ≡ true) × (is_number file third ≡ true)
-  unfolding reply_of three_of
-  reply_pairs t =
-      let f = three_of file r in
-      let c = both4 f.is (is_nonce file f.first) (is_number file f.second) (is_number file f.third) t in
-      ((both (pair_of file r).is (pair_of file second).is c.0).0, c.3)
+  three_pairs : {t : ℕ × ℕ × ℕ} → three_of file r ≡ Some t →
+      (p : ℕ × ℕ) × (q : ℕ × ℕ) × (pair_of file r ≡ Some p) × (pair_of file p.1 ≡ Some q) × ((p.0, q.0, q.1) ≡ t)
+  unfolding three_of
+  three_pairs h =
+      let (p, ep, hp) = and_then_some h in
+      let (q, eq, hq) = and_then_some hp in
+      (p, q, ep, eq, same_Some _ _ hq)
 
-  pub hello_crypt : (hello_of file r).is ≡ true → (crypt_of file r).is ≡ false
-  hello_crypt t = no_crypt (hello_pairs t).0
+  reply_three : {m : Reply} → reply_of file r ≡ Some m → (t : ℕ × ℕ × ℕ) × (three_of file r ≡ Some t) × (is_number file t.2 ≡ true)
+  unfolding reply_of
+  reply_three h =
+      let (t, et, ht) = and_then_some h in
+      let b = both3 (is_nonce file t.0) (is_number file t.1) (is_number file t.2) (then_some_true ht).0 in
+      (t, et, b.2)
 
-  pub reply_crypt : (reply_of file r).is ≡ true → (crypt_of file r).is ≡ false
-  reply_crypt t = no_crypt (reply_pairs t).0
+  reply_pairs : {m : Reply} → reply_of file r ≡ Some m →
+      (p : ℕ × ℕ) × (q : ℕ × ℕ) × (pair_of file r ≡ Some p) × (pair_of file p.1 ≡ Some q) × (is_number file q.1 ≡ true)
+  reply_pairs h =
+      let (t, et, n) = reply_three h in
+      let (p, q, ep, eq, one) = three_pairs et in
+      (p, q, ep, eq, ap (λ (x : ℕ × ℕ × ℕ). is_number file x.2) one ∙ n)
 
-  third_apart : is_number file third ≡ true → (pair_of file third).is ≡ false
-  unfolding pair_of is_number
-  third_apart t = number_pair (row_at file third) (held t)
+  pub hello_crypt : (m : Hello) → hello_of file r ≡ Some m → crypt_of file r ≡ None
+  hello_crypt m h = let (p, q, s, ep, _, _) = hello_pairs h in no_crypt file r ep
 
-  pub reply_hello : (reply_of file r).is ≡ true → (hello_of file r).is ≡ false
-  reply_hello t = refuted _ (λ h. clash (third_apart (reply_pairs t).1) (hello_pairs h).1)
+  pub reply_crypt : (m : Reply) → reply_of file r ≡ Some m → crypt_of file r ≡ None
+  reply_crypt m h = let (p, q, ep, _, _) = reply_pairs h in no_crypt file r ep
 
-  second_apart : is_nonce file second ≡ true → (pair_of file second).is ≡ false
-  unfolding pair_of is_nonce
-  second_apart t = nonce_pair (row_at file second) (held t)
+  pub reply_hello : (m : Reply) → reply_of file r ≡ Some m → hello_of file r ≡ None
+  reply_hello m h = nothing (λ x g.
+      let (p, q, ep, eq, n) = reply_pairs h in
+      let (p', q', s, ep', eq', es) = hello_pairs g in
+      apart p q p' q' s ep eq n ep' eq' es)
+    where
+      apart : (p q p' q' s : ℕ × ℕ) → pair_of file r ≡ Some p → pair_of file p.1 ≡ Some q → is_number file q.1 ≡ true →
+          pair_of file r ≡ Some p' → pair_of file p'.1 ≡ Some q' → pair_of file q'.1 ≡ Some s → ⊥
+      apart p q p' q' s ep eq n ep' eq' es =
+          let one : p'.1 ≡ p.1 = ap (λ (x : ℕ × ℕ). x.1) (one_found ep' ep) in
+          let two : q'.1 ≡ q.1 = ap (λ (x : ℕ × ℕ). x.1) (one_found (rw one at eq') eq) in
+          no_number file q.1 (rw two at es) n
 
-  kept_nonce : (kept_of file r).is ≡ true → is_nonce file second ≡ true
+  kept_pair : {m : Kept} → kept_of file r ≡ Some m → (p : ℕ × ℕ) × (pair_of file r ≡ Some p) × (is_nonce file p.1 ≡ true)
   unfolding kept_of
-  kept_nonce t = (both3 (pair_of file r).is (agent_of file (pair_of file r).first).is (is_nonce file second) t).2
+  kept_pair h =
+      let (p, ep, hp) = and_then_some h in
+      let (a, ea, ha) = and_then_some {o = agent_of file p.0} hp in
+      (p, ep, (then_some_true ha).0)
 
-  session_pairs : (remembered_of file r).is ≡ true → (pair_of file second).is ≡ true
+  session_pairs : {m : Remembered} → remembered_of file r ≡ Some m →
+      (p : ℕ × ℕ) × (q : ℕ × ℕ) × (pair_of file r ≡ Some p) × (pair_of file p.1 ≡ Some q)
   unfolding remembered_of four_of three_of
-  session_pairs t =
-      let f = four_of file r in
-      let c = both5 f.is (is_number file f.first) (agent_of file f.second).is (agent_of file f.third).is (is_nonce file f.fourth) t in
-      let p = both (pair_of file r).is (three_of file second).is c.0 in
-      (both (pair_of file second).is (pair_of file third).is p.1).0
+  session_pairs h =
+      let (f, ef, hf) = and_then_some h in
+      let (p, ep, hp) = and_then_some ef in
+      let (t, et, ht) = and_then_some hp in
+      let (q, eq, hq) = and_then_some et in
+      (p, q, ep, eq)
 
-  pub session_kept : (remembered_of file r).is ≡ true → (kept_of file r).is ≡ false
-  session_kept t = refuted _ (λ k. clash (second_apart (kept_nonce k)) (session_pairs t))
+  pub session_kept : (m : Remembered) → remembered_of file r ≡ Some m → kept_of file r ≡ None
+  session_kept m h = nothing (λ x g.
+      let (p, q, ep, eq) = session_pairs h in
+      let (p', ep', n) = kept_pair g in
+      apart p q p' ep eq ep' n)
+    where
+      apart : (p q p' : ℕ × ℕ) → pair_of file r ≡ Some p → pair_of file p.1 ≡ Some q →
+          pair_of file r ≡ Some p' → is_nonce file p'.1 ≡ true → ⊥
+      apart p q p' ep eq ep' n =
+          let one : p'.1 ≡ p.1 = ap (λ (x : ℕ × ℕ). x.1) (one_found ep' ep) in
+          no_nonce file p.1 eq (rw one at n)
 
-  abbrev key : ℕ
-  key = (crypt_of file r).first
-
-  signed_parts : (signed_of file r).is ≡ true → ((crypt_of file r).is ≡ true) × ((private_of file key).is ≡ true)
+  signed_parts : {m : Signed} → signed_of file r ≡ Some m →
+      (c : leaf.Crypt) × (signer : ℕ) × (crypt_of file r ≡ Some c) × (private_of file c.key ≡ Some signer)
   unfolding signed_of
-  signed_parts t =
-      let c = crypt_of file r in
-      let k = private_of file c.first in
-      let p = pair_of file c.second in
-      let b = both6 c.is k.is (eqb k.first Authority) p.is (agent_of file p.first).is (is_key file p.second) t in
-      (b.0, b.1)
+  signed_parts h =
+      let (c, ec, hc) = and_then_some h in
+      let (signer, es, hs) = and_then_some hc in
+      (c, signer, ec, es)
 
-  pub cert_crypt : (signed_of file r).is ≡ true → (crypt_of file r).is ≡ true
-  cert_crypt t = (signed_parts t).0
+  pub cert_crypt : (m : Signed) → signed_of file r ≡ Some m → (c : leaf.Crypt) × (crypt_of file r ≡ Some c)
+  cert_crypt m h = let (c, signer, ec, es) = signed_parts h in (c, ec)
 
-  key_apart : (public_of file key).is ≡ true → (private_of file key).is ≡ false
-  unfolding public_of private_of
-  key_apart t = public_private (row_at file key) (held t)
-
-  pub sent_cert : (public_of file key).is ≡ true → (signed_of file r).is ≡ false
-  sent_cert t = refuted _ (λ s. clash (key_apart t) (signed_parts s).1)
+  pub sent_cert : (c : leaf.Crypt) (a : ℕ) → crypt_of file r ≡ Some c → public_of file c.key ≡ Some a → signed_of file r ≡ None
+  sent_cert c a e p = nothing (λ x g. let (c', signer, ec, es) = signed_parts g in apart c' signer ec es)
+    where
+      apart : (c' : leaf.Crypt) (signer : ℕ) → crypt_of file r ≡ Some c' → private_of file c'.key ≡ Some signer → ⊥
+      apart c' signer ec es =
+          let one : c'.key ≡ c.key = ap (λ (x : leaf.Crypt). x.key) (one_found ec e) in
+          unfound (no_private file c.key p) (rw one at es)

@@ -1,7 +1,7 @@
 -- An event of the file, flat, against the paper's event; and what is in the trace of the first e events.
 -- Assumes nothing.
 use Prim.Native.Nat.{ℕ, suc, zero, ◌<◌, ◌≤◌}
-use mathlib.Core.Bool.{Bool, true, false, not, true≢false}
+use mathlib.Core.Bool.{Bool, true, false, not, ◌&&◌, true≢false}
 use mathlib.Core.List.{List, ◌∷◌}
 use mathlib.Core.Logic.{◌⊎◌, inl, inr}
 use mathlib.Core.Path.{◌≡◌, refl, sym, ap}
@@ -108,6 +108,13 @@ module _ (file : List ℕ) (P : Promised file) (e : ℕ) (le : e ≤ events_of f
       let b = both3 (heard_at file j).says (eqb (heard_at file j).from from) (eqb (heard_at file j).to to) t in
       rw (says_meant file (event_at file j) b.0, q, eqb-true (heard_at file j).from from b.1, eqb-true (heard_at file j).to to b.2) at
       (in_beginning file j e l)
+
+  pub from_sound : (j from : ℕ) {X : paper.msg} → j < e → ((heard_at file j).says && eqb (heard_at file j).from from) ≡ true →
+      message file (heard_at file j).row ≡ X → (B : paper.agent) × In (event.Says from B X) (beginning file e)
+  from_sound j from l t q =
+      let b = both (heard_at file j).says (eqb (heard_at file j).from from) t in
+      let i = rw (says_meant file (event_at file j) b.0, q, eqb-true (heard_at file j).from from b.1) at (in_beginning file j e l) in
+      ((heard_at file j).to, i)
 
   pub noted_sound : (j from : ℕ) {X : paper.msg} → j < e → noted_by (heard_at file j) from ≡ true → message file (heard_at file j).row ≡ X →
       In (event.Notes from X) (beginning file e)

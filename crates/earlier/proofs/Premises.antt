@@ -10,20 +10,17 @@ use Rattle.paper.specs.Message as paper
 use Rattle.paper.specs.Event.{event, trace, In, Says, Notes}
 use Rattle.paper.specs.Rules.{Step, CH, SH, cert, secret_note, session_note}
 use Rattle.trace.specs.File.{rows_of, events_of}
-use Rattle.trace.specs.Events.{event_at}
 use Rattle.trace.specs.Meaning.{message, beginning, as_nonce, as_key}
 use Rattle.trace.specs.Promises.{Promised}
 use Rattle.laws.proofs.First.{any_some, any_inv}
 use Rattle.laws.proofs.Both.{both, both3, both4}
-use Rattle.forms.specs.Kinds.{crypt_of, public_of}
-use Rattle.forms.specs.Forms.{hello_of, reply_of, kept_of, signed_of, remembered_of}
+use Rattle.laws.proofs.Options.{is_some_and_true}
 use Rattle.forms.specs.Shapes.{RowHolds}
-use Rattle.forms.proofs.Flags.{both5}
 use Rattle.forms.proofs.Shaped.{shapes}
 use Rattle.earlier.specs.declared.Wanted.{Wanted}
 use Rattle.earlier.specs.declared.Wanted.TheVariants.{HelloFor, HelloBy, HelloTo, ReplyWith, ReplyTo, ReplyBy, Cert, Secret, Sent, Session, Under}
 use Rattle.earlier.specs.Earlier.{heard_at, said_to, said_by, noted_by, is_hello, is_reply, fits_in, earlier}
-use Rattle.earlier.proofs.Meant.{to_sound, by_sound, noted_sound, said_told, noted_told, row_in, says_meant, in_beginning}
+use Rattle.earlier.proofs.Meant.{to_sound, by_sound, noted_sound, said_told, noted_told, row_in, from_sound}
 
 as_number : paper.msg → ℕ
 as_number (paper.Agent A) = 0
@@ -85,53 +82,46 @@ module _ (file : List ℕ) (P : Promised file) where
       RowHolds file na (paper.Nonce Na) → RowHolds file sid (paper.Number SID) → RowHolds file pa (paper.Number Pa) →
       message file r ≡ CH agent Na SID Pa
   hello_is r agent na sid pa l t hn hs hp =
-      let b =
-      both5 (hello_of file r).is (eqb (hello_of file r).agent agent) (eqb (hello_of file r).na na) (eqb (hello_of file r).sid sid)
-      (eqb (hello_of file r).pa pa) t
-      in
-      let m = ((shapes file P).hello_sound r l b.0).3 in
-      m.whole ∙
-      hello_same (eqb-true (hello_of file r).agent agent b.1) (nonce_one (one_message file (hello_of file r).na na m.na b.2 hn))
-      (number_one (one_message file (hello_of file r).sid sid m.sid b.3 hs))
-      (number_one (one_message file (hello_of file r).pa pa m.pa b.4 hp))
+      let (m, e, h) = is_some_and_true t in
+      let b = both4 _ _ _ _ h in
+      let c = ((shapes file P).hello_sound r l e).3 in
+      c.whole ∙
+      hello_same (eqb-true m.agent agent b.0) (nonce_one (one_message file m.na na c.na b.1 hn))
+      (number_one (one_message file m.sid sid c.sid b.2 hs)) (number_one (one_message file m.pa pa c.pa b.3 hp))
 
   pub is_hello_lem : (r agent na sid pa : ℕ) {Na : paper.nonce} {SID Pa : ℕ} → r < rows_of file → message file r ≡ CH agent Na SID Pa →
       RowHolds file na (paper.Nonce Na) → RowHolds file sid (paper.Number SID) → RowHolds file pa (paper.Number Pa) →
       is_hello file r agent na sid pa ≡ true
   is_hello_lem r agent na sid pa l q hn hs hp =
-      let m = (shapes file P).hello_complete r l q in
+      let (m, c) = (shapes file P).hello_complete r l q in
       rw (
-        m.flag,
-        eq-eqb (hello_of file r).agent agent m.agent,
-        one_row (hello_of file r).na na m.na hn,
-        one_row (hello_of file r).sid sid m.sid hs,
-        one_row (hello_of file r).pa pa m.pa hp,
+        c.found,
+        eq-eqb m.agent agent c.agent,
+        one_row m.na na c.na hn,
+        one_row m.sid sid c.sid hs,
+        one_row m.pa pa c.pa hp,
       ) refl
 
   pub reply_is : (r nb sid pb : ℕ) {Nb : paper.nonce} {SID Pb : ℕ} → r < rows_of file → is_reply file r nb sid pb ≡ true →
       RowHolds file nb (paper.Nonce Nb) → RowHolds file sid (paper.Number SID) → RowHolds file pb (paper.Number Pb) →
       message file r ≡ SH Nb SID Pb
   reply_is r nb sid pb l t hn hs hp =
-      let b = both4 (reply_of file r).is (eqb (reply_of file r).nb nb) (eqb (reply_of file r).sid sid) (eqb (reply_of file r).pb pb) t in
-      let m = ((shapes file P).reply_sound r l b.0).3 in
+      let (m, e, h) = is_some_and_true t in
+      let b = both3 _ _ _ h in
+      let c = ((shapes file P).reply_sound r l e).3 in
       rw (
-        m.whole,
-        nonce_one (one_message file (reply_of file r).nb nb m.nb b.1 hn),
-        number_one (one_message file (reply_of file r).sid sid m.sid b.2 hs),
-        number_one (one_message file (reply_of file r).pb pb m.pb b.3 hp),
+        c.whole,
+        nonce_one (one_message file m.nb nb c.nb b.0 hn),
+        number_one (one_message file m.sid sid c.sid b.1 hs),
+        number_one (one_message file m.pb pb c.pb b.2 hp),
       ) refl
 
   pub is_reply_lem : (r nb sid pb : ℕ) {Nb : paper.nonce} {SID Pb : ℕ} → r < rows_of file → message file r ≡ SH Nb SID Pb →
       RowHolds file nb (paper.Nonce Nb) → RowHolds file sid (paper.Number SID) → RowHolds file pb (paper.Number Pb) →
       is_reply file r nb sid pb ≡ true
   is_reply_lem r nb sid pb l q hn hs hp =
-      let m = (shapes file P).reply_complete r l q in
-      rw (
-        m.flag,
-        one_row (reply_of file r).nb nb m.nb hn,
-        one_row (reply_of file r).sid sid m.sid hs,
-        one_row (reply_of file r).pb pb m.pb hp,
-      ) refl
+      let (m, c) = (shapes file P).reply_complete r l q in
+      rw (c.found, one_row m.nb nb c.nb hn, one_row m.sid sid c.sid hs, one_row m.pb pb c.pb hp) refl
 
 module _ (file : List ℕ) (P : Promised file) (e : ℕ) (le : e ≤ events_of file) where
   found : (w : Wanted) → earlier file w e ≡ true → (j : ℕ) × (j < e) × (fits_in file w (heard_at file j) ≡ true)
@@ -144,34 +134,26 @@ module _ (file : List ℕ) (P : Promised file) (e : ℕ) (le : e ≤ events_of f
 
   pub hello_for_sound : (to agent sid : ℕ) {SID : ℕ} → earlier file (HelloFor to agent sid) e ≡ true → RowHolds file sid (paper.Number SID) →
       (A : paper.agent) × (Na : paper.nonce) × (Pa : ℕ) × In (Says A to (CH agent Na SID Pa)) (beginning file e)
-  hello_for_sound to agent sid {SID} t hs = go (found (HelloFor to agent sid) t)
-    where
-      go : (j : ℕ) × (j < e) × (fits_in file (HelloFor to agent sid) (heard_at file j) ≡ true) →
-          (A : paper.agent) × (Na : paper.nonce) × (Pa : ℕ) × In (Says A to (CH agent Na SID Pa)) (beginning file e)
-      go (j, l, f) =
-          let r = (heard_at file j).row in
-          let b =
-          both (said_to (heard_at file j) to) ((hello_of file r).is && eqb (hello_of file r).agent agent && eqb (hello_of file r).sid sid) f
-          in
-          let c = both3 (hello_of file r).is (eqb (hello_of file r).agent agent) (eqb (hello_of file r).sid sid) b.1 in
-          let m = (shapes file P).hello_sound r (row_in file P e le j l) c.0 in
-          let q : message file r ≡ CH agent m.0 SID m.2 =
-          m.3.whole ∙
-          hello_same (eqb-true (hello_of file r).agent agent c.1) refl
-          (number_one (one_message file (hello_of file r).sid sid m.3.sid c.2 hs)) refl
-          in
-          let s = to_sound file P e le j to l b.0 q in
-          (s.0, m.0, m.2, s.1)
+  hello_for_sound to agent sid {SID} t hs =
+      let (j, l, f) = found (HelloFor to agent sid) t in
+      let b = both (said_to (heard_at file j) to) _ f in
+      let (m, h, g) = is_some_and_true b.1 in
+      let c = both (eqb m.agent agent) (eqb m.sid sid) g in
+      let (Na, _, Pa, x) = (shapes file P).hello_sound (heard_at file j).row (row_in file P e le j l) h in
+      let q : message file (heard_at file j).row ≡ CH agent Na SID Pa =
+      x.whole ∙ hello_same (eqb-true m.agent agent c.0) refl (number_one (one_message file m.sid sid x.sid c.1 hs)) refl
+      in
+      let s = to_sound file P e le j to l b.0 q in
+      (s.0, Na, Pa, s.1)
 
   pub hello_for_complete : (to agent sid : ℕ) {A : paper.agent} {Na : paper.nonce} {SID Pa : ℕ} →
       In (Says A to (CH agent Na SID Pa)) (beginning file e) → RowHolds file sid (paper.Number SID) →
       earlier file (HelloFor to agent sid) e ≡ true
   hello_for_complete to agent sid i hs =
       let t = said_told file P e le i in
-      let r = (heard_at file t.at).row in
-      let m = (shapes file P).hello_complete r t.row t.meant in
+      let (m, x) = (shapes file P).hello_complete (heard_at file t.at).row t.row t.meant in
       some (HelloFor to agent sid) t.at t.before
-      (rw (t.to, m.flag, eq-eqb (hello_of file r).agent agent m.agent, one_row file P (hello_of file r).sid sid m.sid hs) refl)
+      (rw (t.to, x.found, eq-eqb m.agent agent x.agent, one_row file P m.sid sid x.sid hs) refl)
 
   pub hello_by_sound : (from to na sid pa : ℕ) {Na : paper.nonce} {SID Pa : ℕ} → earlier file (HelloBy from to na sid pa) e ≡ true →
       RowHolds file na (paper.Nonce Na) → RowHolds file sid (paper.Number SID) → RowHolds file pa (paper.Number Pa) →
@@ -212,24 +194,20 @@ module _ (file : List ℕ) (P : Promised file) (e : ℕ) (le : e ≤ events_of f
   pub reply_with_sound : (to nb : ℕ) {Nb : paper.nonce} → earlier file (ReplyWith to nb) e ≡ true → RowHolds file nb (paper.Nonce Nb) →
       (B : paper.agent) × (SID : ℕ) × (Pb : ℕ) × In (Says B to (SH Nb SID Pb)) (beginning file e)
   reply_with_sound to nb {Nb} t hn =
-      let f = found (ReplyWith to nb) t in
-      let r = (heard_at file f.0).row in
-      let b = both (said_to (heard_at file f.0) to) ((reply_of file r).is && eqb (reply_of file r).nb nb) f.2 in
-      let c = both (reply_of file r).is (eqb (reply_of file r).nb nb) b.1 in
-      let m = (shapes file P).reply_sound r (row_in file P e le f.0 f.1) c.0 in
-      let q : message file r ≡ SH Nb m.1 m.2 =
-      rw (m.3.whole, nonce_one (one_message file (reply_of file r).nb nb m.3.nb c.1 hn)) refl
-      in
-      let s = to_sound file P e le f.0 to f.1 b.0 q in
-      (s.0, m.1, m.2, s.1)
+      let (j, l, f) = found (ReplyWith to nb) t in
+      let b = both (said_to (heard_at file j) to) _ f in
+      let (m, h, c) = is_some_and_true b.1 in
+      let (_, SID, Pb, x) = (shapes file P).reply_sound (heard_at file j).row (row_in file P e le j l) h in
+      let q : message file (heard_at file j).row ≡ SH Nb SID Pb = rw (x.whole, nonce_one (one_message file m.nb nb x.nb c hn)) refl in
+      let s = to_sound file P e le j to l b.0 q in
+      (s.0, SID, Pb, s.1)
 
   pub reply_with_complete : (to nb : ℕ) {B : paper.agent} {Nb : paper.nonce} {SID Pb : ℕ} → In (Says B to (SH Nb SID Pb)) (beginning file e) →
       RowHolds file nb (paper.Nonce Nb) → earlier file (ReplyWith to nb) e ≡ true
   reply_with_complete to nb i hn =
       let t = said_told file P e le i in
-      let r = (heard_at file t.at).row in
-      let m = (shapes file P).reply_complete r t.row t.meant in
-      some (ReplyWith to nb) t.at t.before (rw (t.to, m.flag, one_row file P (reply_of file r).nb nb m.nb hn) refl)
+      let (m, x) = (shapes file P).reply_complete (heard_at file t.at).row t.row t.meant in
+      some (ReplyWith to nb) t.at t.before (rw (t.to, x.found, one_row file P m.nb nb x.nb hn) refl)
 
   pub reply_to_sound : (to nb sid pb : ℕ) {Nb : paper.nonce} {SID Pb : ℕ} → earlier file (ReplyTo to nb sid pb) e ≡ true →
       RowHolds file nb (paper.Nonce Nb) → RowHolds file sid (paper.Number SID) → RowHolds file pb (paper.Number Pb) →
@@ -268,150 +246,118 @@ module _ (file : List ℕ) (P : Promised file) (e : ℕ) (le : e ≤ events_of f
   pub cert_sound : (to agent key : ℕ) {K : paper.key} → earlier file (Cert to agent key) e ≡ true → RowHolds file key (paper.Key K) →
       (B : paper.agent) × In (Says B to (cert agent K)) (beginning file e)
   cert_sound to agent key {K} t hk =
-      let f = found (Cert to agent key) t in
-      let r = (heard_at file f.0).row in
-      let b =
-      both (said_to (heard_at file f.0) to) ((signed_of file r).is && eqb (signed_of file r).agent agent && eqb (signed_of file r).key key)
-      f.2
+      let (j, l, f) = found (Cert to agent key) t in
+      let b = both (said_to (heard_at file j) to) _ f in
+      let (m, h, g) = is_some_and_true b.1 in
+      let c = both (eqb m.agent agent) (eqb m.key key) g in
+      let (_, x) = (shapes file P).signed_sound (heard_at file j).row (row_in file P e le j l) h in
+      let q : message file (heard_at file j).row ≡ cert agent K =
+      x.whole ∙ cert_same (eqb-true m.agent agent c.0) (key_one (one_message file m.key key x.key c.1 hk))
       in
-      let c = both3 (signed_of file r).is (eqb (signed_of file r).agent agent) (eqb (signed_of file r).key key) b.1 in
-      let m = (shapes file P).signed_sound r (row_in file P e le f.0 f.1) c.0 in
-      let q : message file r ≡ cert agent K =
-      m.1.whole ∙
-      cert_same (eqb-true (signed_of file r).agent agent c.1) (key_one (one_message file (signed_of file r).key key m.1.key c.2 hk))
-      in
-      to_sound file P e le f.0 to f.1 b.0 q
+      to_sound file P e le j to l b.0 q
 
   pub cert_complete : (to agent key : ℕ) {B : paper.agent} {K : paper.key} → In (Says B to (cert agent K)) (beginning file e) →
       RowHolds file key (paper.Key K) → earlier file (Cert to agent key) e ≡ true
   cert_complete to agent key i hk =
       let t = said_told file P e le i in
-      let r = (heard_at file t.at).row in
-      let m = (shapes file P).signed_complete r t.row t.meant in
+      let (m, x) = (shapes file P).signed_complete (heard_at file t.at).row t.row t.meant in
       some (Cert to agent key) t.at t.before
-      (rw (t.to, m.flag, eq-eqb (signed_of file r).agent agent m.agent, one_row file P (signed_of file r).key key m.key hk) refl)
+      (rw (t.to, x.found, eq-eqb m.agent agent x.agent, one_row file P m.key key x.key hk) refl)
 
   pub secret_sound : (from agent secret : ℕ) {PMS : paper.nonce} → earlier file (Secret from agent secret) e ≡ true →
       RowHolds file secret (paper.Nonce PMS) → In (Notes from (secret_note agent PMS)) (beginning file e)
   secret_sound from agent secret {PMS} t hn =
-      let f = found (Secret from agent secret) t in
-      let r = (heard_at file f.0).row in
-      let b =
-      both (noted_by (heard_at file f.0) from) ((kept_of file r).is && eqb (kept_of file r).agent agent && eqb (kept_of file r).secret secret)
-      f.2
+      let (j, l, f) = found (Secret from agent secret) t in
+      let b = both (noted_by (heard_at file j) from) _ f in
+      let (m, h, g) = is_some_and_true b.1 in
+      let c = both (eqb m.agent agent) (eqb m.secret secret) g in
+      let (_, x) = (shapes file P).kept_sound (heard_at file j).row (row_in file P e le j l) h in
+      let q : message file (heard_at file j).row ≡ secret_note agent PMS =
+      x.whole ∙ note_same (eqb-true m.agent agent c.0) (nonce_one (one_message file m.secret secret x.secret c.1 hn))
       in
-      let c = both3 (kept_of file r).is (eqb (kept_of file r).agent agent) (eqb (kept_of file r).secret secret) b.1 in
-      let m = (shapes file P).kept_sound r (row_in file P e le f.0 f.1) c.0 in
-      let q : message file r ≡ secret_note agent PMS =
-      m.1.whole ∙
-      note_same (eqb-true (kept_of file r).agent agent c.1)
-      (nonce_one (one_message file (kept_of file r).secret secret m.1.secret c.2 hn))
-      in
-      noted_sound file P e le f.0 from f.1 b.0 q
+      noted_sound file P e le j from l b.0 q
 
   pub secret_complete : (from agent secret : ℕ) {PMS : paper.nonce} → In (Notes from (secret_note agent PMS)) (beginning file e) →
       RowHolds file secret (paper.Nonce PMS) → earlier file (Secret from agent secret) e ≡ true
   secret_complete from agent secret i hn =
       let t = noted_told file P e le i in
-      let r = (heard_at file t.at).row in
-      let m = (shapes file P).kept_complete r t.row t.meant in
+      let (m, x) = (shapes file P).kept_complete (heard_at file t.at).row t.row t.meant in
       some (Secret from agent secret) t.at t.before
-      (rw (t.by, m.flag, eq-eqb (kept_of file r).agent agent m.agent, one_row file P (kept_of file r).secret secret m.secret hn) refl)
+      (rw (t.by, x.found, eq-eqb m.agent agent x.agent, one_row file P m.secret secret x.secret hn) refl)
 
   pub sent_sound : (to secret : ℕ) {PMS : paper.nonce} → earlier file (Sent to secret) e ≡ true → RowHolds file secret (paper.Nonce PMS) →
       (A : paper.agent) × In (Says A to (paper.Crypt (paper.pub_k to) (paper.Nonce PMS))) (beginning file e)
   sent_sound to secret {PMS} t hn =
-      let f = found (Sent to secret) t in
-      let r = (heard_at file f.0).row in
-      let k = (crypt_of file r).first in
-      let b =
-      both (said_to (heard_at file f.0) to)
-      ((crypt_of file r).is && (public_of file k).is && eqb (public_of file k).first to && eqb (crypt_of file r).second secret) f.2
+      let (j, l, f) = found (Sent to secret) t in
+      let b = both (said_to (heard_at file j) to) _ f in
+      let (c, h, g) = is_some_and_true b.1 in
+      let (agent, k, i) = is_some_and_true g in
+      let d = both (eqb agent to) (eqb c.body secret) i in
+      let x = (shapes file P).crypt_sound (heard_at file j).row (row_in file P e le j l) h in
+      let n = (shapes file P).public_sound c.key x.key.row k in
+      let owner : agent ≡ to = eqb-true agent to d.0 in
+      let body : c.body ≡ secret = eqb-true c.body secret d.1 in
+      let q : message file (heard_at file j).row ≡ paper.Crypt (paper.pub_k to) (paper.Nonce PMS) =
+      rw (x.whole, n.whole, owner, body, hn.meant) refl
       in
-      let c =
-      both4 (crypt_of file r).is (public_of file k).is (eqb (public_of file k).first to) (eqb (crypt_of file r).second secret) b.1
-      in
-      let m = (shapes file P).crypt_sound r (row_in file P e le f.0 f.1) c.0 in
-      let n = (shapes file P).public_sound k m.first.row c.1 in
-      let q : message file r ≡ paper.Crypt (paper.pub_k to) (paper.Nonce PMS) =
-      rw (m.whole, n.whole, eqb-true (public_of file k).first to c.2, eqb-true (crypt_of file r).second secret c.3, hn.meant) refl
-      in
-      to_sound file P e le f.0 to f.1 b.0 q
+      to_sound file P e le j to l b.0 q
 
   pub sent_complete : (to secret : ℕ) {A : paper.agent} {PMS : paper.nonce} →
       In (Says A to (paper.Crypt (paper.pub_k to) (paper.Nonce PMS))) (beginning file e) → RowHolds file secret (paper.Nonce PMS) →
       earlier file (Sent to secret) e ≡ true
   sent_complete to secret i hn =
       let t = said_told file P e le i in
-      let r = (heard_at file t.at).row in
-      let k = (crypt_of file r).first in
-      let m = (shapes file P).crypt_complete r t.row t.meant in
-      let n = (shapes file P).public_complete k m.first.row m.first.meant in
+      let (c, x) = (shapes file P).crypt_complete (heard_at file t.at).row t.row t.meant in
+      let n = (shapes file P).public_complete c.key x.key.row x.key.meant in
       some (Sent to secret) t.at t.before
-      (rw (t.to, m.flag, n.flag, eq-eqb (public_of file k).first to n.agent, one_row file P (crypt_of file r).second secret m.second hn) refl)
+      (rw (t.to, x.found, n.found, eq-eqb to to refl, one_row file P c.body secret x.body hn) refl)
 
   pub session_sound : (from sid a b m : ℕ) {SID : ℕ} {M : paper.nonce} → earlier file (Session from sid a b m) e ≡ true →
       RowHolds file sid (paper.Number SID) → RowHolds file m (paper.Nonce M) → In (Notes from (session_note SID a b M)) (beginning file e)
   session_sound from sid a b m {SID} {M} t hs hm =
-      let f = found (Session from sid a b m) t in
-      let r = (heard_at file f.0).row in
-      let d =
-      both (noted_by (heard_at file f.0) from)
-      ((remembered_of file r).is && eqb (remembered_of file r).sid sid && eqb (remembered_of file r).a a && eqb (remembered_of file r).b b &&
-      eqb (remembered_of file r).m m) f.2
+      let (j, l, f) = found (Session from sid a b m) t in
+      let d = both (noted_by (heard_at file j) from) _ f in
+      let (y, h, g) = is_some_and_true d.1 in
+      let c = both4 (eqb y.sid sid) (eqb y.a a) (eqb y.b b) (eqb y.m m) g in
+      let (_, _, x) = (shapes file P).remembered_sound (heard_at file j).row (row_in file P e le j l) h in
+      let q : message file (heard_at file j).row ≡ session_note SID a b M =
+      x.whole ∙
+      session_same (number_one (one_message file y.sid sid x.sid c.0 hs)) (eqb-true y.a a c.1) (eqb-true y.b b c.2)
+      (nonce_one (one_message file y.m m x.m c.3 hm))
       in
-      let c =
-      both5 (remembered_of file r).is (eqb (remembered_of file r).sid sid) (eqb (remembered_of file r).a a) (eqb (remembered_of file r).b b)
-      (eqb (remembered_of file r).m m) d.1
-      in
-      let n = (shapes file P).remembered_sound r (row_in file P e le f.0 f.1) c.0 in
-      let q : message file r ≡ session_note SID a b M =
-      ◌∙◌ {b = session_note n.0 (remembered_of file r).a (remembered_of file r).b n.1} n.2.whole
-      (session_same (number_one (one_message file (remembered_of file r).sid sid n.2.sid c.1 hs))
-      (eqb-true (remembered_of file r).a a c.2) (eqb-true (remembered_of file r).b b c.3)
-      (nonce_one (one_message file (remembered_of file r).m m n.2.m c.4 hm)))
-      in
-      noted_sound file P e le f.0 from f.1 d.0 q
+      noted_sound file P e le j from l d.0 q
 
   pub session_complete : (from sid a b m : ℕ) {SID : ℕ} {M : paper.nonce} → In (Notes from (session_note SID a b M)) (beginning file e) →
       RowHolds file sid (paper.Number SID) → RowHolds file m (paper.Nonce M) → earlier file (Session from sid a b m) e ≡ true
   session_complete from sid a b m i hs hm =
       let t = noted_told file P e le i in
-      let r = (heard_at file t.at).row in
-      let n = (shapes file P).remembered_complete r t.row t.meant in
+      let (y, x) = (shapes file P).remembered_complete (heard_at file t.at).row t.row t.meant in
       some (Session from sid a b m) t.at t.before
       (rw (
         t.by,
-        n.flag,
-        one_row file P (remembered_of file r).sid sid n.sid hs,
-        eq-eqb (remembered_of file r).a a n.a,
-        eq-eqb (remembered_of file r).b b n.b,
-        one_row file P (remembered_of file r).m m n.m hm,
+        x.found,
+        one_row file P y.sid sid x.sid hs,
+        eq-eqb y.a a x.a,
+        eq-eqb y.b b x.b,
+        one_row file P y.m m x.m hm,
       ) refl)
 
   pub under_sound : (from key : ℕ) {K : paper.key} → earlier file (Under from key) e ≡ true → RowHolds file key (paper.Key K) →
       (B : paper.agent) × (X : paper.msg) × In (Says from B (paper.Crypt K X)) (beginning file e)
   under_sound from key {K} t hk =
-      let f = found (Under from key) t in
-      let h = heard_at file f.0 in
-      let r = (heard_at file f.0).row in
-      let b = both (h.says && eqb h.from from) ((crypt_of file r).is && eqb (crypt_of file r).first key) f.2 in
-      let s = both h.says (eqb h.from from) b.0 in
-      let c = both (crypt_of file r).is (eqb (crypt_of file r).first key) b.1 in
-      let m = (shapes file P).crypt_sound r (row_in file P e le f.0 f.1) c.0 in
-      let q : message file r ≡ paper.Crypt K (message file (crypt_of file r).second) =
-      rw (m.whole, eqb-true (crypt_of file r).first key c.1, hk.meant) refl
-      in
-      let i : In (Says from h.to (paper.Crypt K (message file (crypt_of file r).second))) (beginning file e) =
-      rw (says_meant file (event_at file f.0) s.0, q, eqb-true h.from from s.1) at (in_beginning file f.0 e f.1)
-      in
-      (h.to, message file (crypt_of file r).second, i)
+      let (j, l, f) = found (Under from key) t in
+      let h = heard_at file j in
+      let b = both (h.says && eqb h.from from) _ f in
+      let (c, g, k) = is_some_and_true b.1 in
+      let x = (shapes file P).crypt_sound h.row (row_in file P e le j l) g in
+      let q : message file h.row ≡ paper.Crypt K (message file c.body) = rw (x.whole, eqb-true c.key key k, hk.meant) refl in
+      let s = from_sound file P e le j from l b.0 q in
+      (s.0, message file c.body, s.1)
 
   pub under_complete : (from key : ℕ) {B : paper.agent} {K : paper.key} {X : paper.msg} →
       In (Says from B (paper.Crypt K X)) (beginning file e) → RowHolds file key (paper.Key K) → earlier file (Under from key) e ≡ true
   under_complete from key i hk =
       let t = said_told file P e le i in
-      let r = (heard_at file t.at).row in
-      let m = (shapes file P).crypt_complete r t.row t.meant in
+      let (c, x) = (shapes file P).crypt_complete (heard_at file t.at).row t.row t.meant in
       some (Under from key) t.at t.before
-      (rw (t.says, eq-eqb (heard_at file t.at).from from t.from, m.flag, one_row file P (crypt_of file r).first key m.first hk) refl)
+      (rw (t.says, eq-eqb (heard_at file t.at).from from t.from, x.found, one_row file P c.key key x.key hk) refl)

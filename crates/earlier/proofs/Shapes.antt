@@ -1,205 +1,183 @@
 -- An event's card is what is asked for, and its agents are, exactly when the event is what is wanted.
 -- Assumes nothing.
 use Prim.Native.Nat.{ℕ}
-use mathlib.Core.Bool.{Bool, true, false, not, ◌&&◌, true≢false}
+use mathlib.Core.Bool.{Bool, true, false, not, ◌&&◌}
 use mathlib.Core.List.{List}
-use mathlib.Core.Path.{◌≡◌, refl, sym, ◌∙◌, ap}
+use mathlib.Core.Path.{◌≡◌, refl, sym, ◌∙◌}
 use lib.Dec.{eqb}
 use borrow.Author.Tests.{not-true}
-use Rattle.laws.specs.Choose.{choose}
-use Rattle.laws.proofs.Both.{both, both3, refuted, and_true, and_false}
+use Rattle.std.specs.Prelude.{Option, Some, None}
+use Rattle.laws.specs.Options.{is_some_and}
+use Rattle.laws.proofs.Both.{both, both3, and_true, and_false}
 use Rattle.forms.specs.Kinds.{crypt_of, public_of}
 use Rattle.forms.specs.Forms.{hello_of, reply_of, kept_of, signed_of, remembered_of}
-use Rattle.forms.specs.Flagged.{One, Two, Signed}
+use Rattle.forms.specs.declared.leaves.Crypt.{Crypt}
+use Rattle.forms.specs.declared.Hello.{Hello}
+use Rattle.forms.specs.declared.Reply.{Reply}
+use Rattle.forms.specs.declared.Kept.{Kept}
+use Rattle.forms.specs.declared.Signed.{Signed}
+use Rattle.forms.specs.declared.Remembered.{Remembered}
 use Rattle.earlier.specs.Heard.{Heard}
 use Rattle.earlier.specs.declared.Wanted.{Wanted}
 use Rattle.earlier.specs.declared.Wanted.TheVariants.{HelloFor, HelloBy, HelloTo, ReplyWith, ReplyTo, ReplyBy, Cert, Secret, Sent, Session, Under}
 use Rattle.earlier.specs.declared.cards.Card.{Card}
 use Rattle.earlier.specs.declared.cards.Card.TheVariants as card
 use Rattle.earlier.specs.Earlier.{said_to, said_by, noted_by, is_hello, is_hello_for, is_reply, is_reply_with, fits_in}
-use Rattle.earlier.specs.Cards.{crypt_card, said_card, noted_with, card_of, fits_card, fits_agents}
-use Rattle.earlier.proofs.Apart.{hello_crypt, reply_crypt, reply_hello, session_kept, cert_crypt, sent_cert}
-
--- a test in front of others
-gate2 : (m a b : Bool) → ((m && a) && b) ≡ (m && (a && b))
-gate2 true a b = refl
-gate2 false a b = refl
-
-gate3 : (m a b c : Bool) → (((m && a) && b) && c) ≡ (m && ((a && b) && c))
-gate3 true a b c = refl
-gate3 false a b c = refl
-
-gate4 : (m a b c d : Bool) → ((((m && a) && b) && c) && d) ≡ (m && (((a && b) && c) && d))
-gate4 true a b c d = refl
-gate4 false a b c d = refl
-
--- the card of a message with one of the shapes
-module _ (p : Card → Bool) (X H R N : Card) where
-  abbrev one : Bool → Bool → Bool → Card
-  one x h r = choose x X (choose h H (choose r R N))
-
-  of_first : (x h r : Bool) → p H ≡ false → p R ≡ false → p N ≡ false → (x && p X) ≡ p (one x h r)
-  of_first true h r f g n = refl
-  of_first false true r f g n = sym f
-  of_first false false true f g n = sym g
-  of_first false false false f g n = sym n
-
-  of_second : (x h r : Bool) → (h ≡ true → x ≡ false) → p X ≡ false → p R ≡ false → p N ≡ false → (h && p H) ≡ p (one x h r)
-  of_second true true r apart f g n = absurd (true≢false (apart refl))
-  of_second true false r apart f g n = sym f
-  of_second false true r apart f g n = refl
-  of_second false false true apart f g n = sym g
-  of_second false false false apart f g n = sym n
-
-  of_third : (x h r : Bool) → (r ≡ true → x ≡ false) → (r ≡ true → h ≡ false) → p X ≡ false → p H ≡ false → p N ≡ false →
-      (r && p R) ≡ p (one x h r)
-  of_third true h true no_x no_h f g n = absurd (true≢false (no_x refl))
-  of_third true h false no_x no_h f g n = sym f
-  of_third false true true no_x no_h f g n = absurd (true≢false (no_h refl))
-  of_third false true false no_x no_h f g n = sym g
-  of_third false false true no_x no_h f g n = refl
-  of_third false false false no_x no_h f g n = sym n
+use Rattle.earlier.specs.Cards.{crypt_card, clear_card, said_card, noted_with, card_of, fits_card, fits_agents}
+use Rattle.earlier.proofs.Apart.{unfound, hello_crypt, reply_crypt, reply_hello, session_kept, cert_crypt, sent_cert}
 
 -- what no Crypt is
-module _ (p : Card → Bool) (c : Two) (s : Signed) (k : One) where
-  not_crypt : p (card.Certificate c.first (record { agent = s.agent; key = s.key })) ≡ false → p (card.Sent c.first k.first c.second) ≡ false → p (card.Crypt c.first) ≡ false →
-      p (crypt_card c s k) ≡ false
-  not_crypt f g n = go s.is k.is
-    where
-      go : (x y : Bool) →
-          p (choose x (card.Certificate c.first (record { agent = s.agent; key = s.key })) (choose y (card.Sent c.first k.first c.second) (card.Crypt c.first))) ≡ false
-      go true y = f
-      go false true = g
-      go false false = n
+not_crypt : (p : Card → Bool) (x : Crypt) (s : Option Signed) (k : Option ℕ) → ((m : Signed) → p (card.Certificate x.key m) ≡ false) →
+    ((a : ℕ) → p (card.Sent x.key a x.body) ≡ false) → p (card.Crypt x.key) ≡ false → p (crypt_card x s k) ≡ false
+not_crypt p x (Some m) k f g n = f m
+not_crypt p x None (Some a) f g n = g a
+not_crypt p x None None f g n = n
+
+-- the card of a message with one of the shapes, of which it has no two
+module _ (p : Card → Bool) (k : Crypt → Option ℕ) where
+  abbrev one : Option Crypt → Option Signed → Option Hello → Option Reply → Card
+  one c s h n = elim c [ Some x ↦ crypt_card x s (k x) | None ↦ clear_card h n ]
+
+  of_crypt : (test : Crypt → Bool) (c : Option Crypt) (s : Option Signed) (h : Option Hello) (n : Option Reply) →
+      ((x : Crypt) → c ≡ Some x → test x ≡ p (crypt_card x s (k x))) → p card.Other ≡ false →
+      ((m : Hello) → p (card.Hello m) ≡ false) → ((m : Reply) → p (card.Reply m) ≡ false) → is_some_and c test ≡ p (one c s h n)
+  of_crypt test (Some x) s h n same o f g = same x refl
+  of_crypt test None s (Some m) n same o f g = sym (f m)
+  of_crypt test None s None (Some m) same o f g = sym (g m)
+  of_crypt test None s None None same o f g = sym o
+
+  of_hello : (c : Option Crypt) (s : Option Signed) (h : Option Hello) (n : Option Reply) → ((m : Hello) → h ≡ Some m → c ≡ None) →
+      p card.Other ≡ false → ((x : Crypt) (m : Signed) → p (card.Certificate x.key m) ≡ false) →
+      ((x : Crypt) (a : ℕ) → p (card.Sent x.key a x.body) ≡ false) → ((x : Crypt) → p (card.Crypt x.key) ≡ false) →
+      ((m : Reply) → p (card.Reply m) ≡ false) → is_some_and h (λ m. p (card.Hello m)) ≡ p (one c s h n)
+  of_hello (Some x) s (Some m) n apart o f g e r = unfound (apart _ refl) refl
+  of_hello (Some x) s None n apart o f g e r = sym (not_crypt p x s (k x) (f x) (g x) (e x))
+  of_hello None s (Some m) n apart o f g e r = refl
+  of_hello None s None (Some m) apart o f g e r = sym (r m)
+  of_hello None s None None apart o f g e r = sym o
+
+  of_reply : (c : Option Crypt) (s : Option Signed) (h : Option Hello) (n : Option Reply) → ((m : Reply) → n ≡ Some m → c ≡ None) →
+      ((m : Reply) → n ≡ Some m → h ≡ None) → p card.Other ≡ false → ((x : Crypt) (m : Signed) → p (card.Certificate x.key m) ≡ false) →
+      ((x : Crypt) (a : ℕ) → p (card.Sent x.key a x.body) ≡ false) → ((x : Crypt) → p (card.Crypt x.key) ≡ false) →
+      ((m : Hello) → p (card.Hello m) ≡ false) → is_some_and n (λ m. p (card.Reply m)) ≡ p (one c s h n)
+  of_reply (Some x) s h (Some m) no_c no_h o f g e r = unfound (no_c _ refl) refl
+  of_reply (Some x) s h None no_c no_h o f g e r = sym (not_crypt p x s (k x) (f x) (g x) (e x))
+  of_reply None s (Some y) (Some m) no_c no_h o f g e r = unfound (no_h _ refl) refl
+  of_reply None s (Some y) None no_c no_h o f g e r = sym (r y)
+  of_reply None s None (Some m) no_c no_h o f g e r = refl
+  of_reply None s None None no_c no_h o f g e r = sym o
+
+-- a certificate is a Crypt
+of_cert : (to agent key : ℕ) (k : Crypt → Option ℕ) (c : Option Crypt) (s : Option Signed) (h : Option Hello) (n : Option Reply) →
+    ((m : Signed) → s ≡ Some m → (x : Crypt) × (c ≡ Some x)) →
+    is_some_and s (λ m. eqb m.agent agent && eqb m.key key) ≡ fits_card (Cert to agent key) (one (fits_card (Cert to agent key)) k c s h n)
+of_cert to agent key k (Some x) (Some m) h n crypt = refl
+of_cert to agent key k (Some x) None h n crypt = sym (not_cert x (k x))
+  where
+    not_cert : (x : Crypt) (k : Option ℕ) → fits_card (Cert to agent key) (crypt_card x None k) ≡ false
+    not_cert x (Some a) = refl
+    not_cert x None = refl
+of_cert to agent key k None (Some m) h n crypt = unfound refl (crypt m refl).1
+of_cert to agent key k None None (Some m) n crypt = refl
+of_cert to agent key k None None None (Some m) crypt = refl
+of_cert to agent key k None None None None crypt = refl
 
 -- what a Crypt holds
-certified : (c : Two) (s : Signed) (k : One) (to agent key : ℕ) →
-    ((s.is && eqb s.agent agent) && eqb s.key key) ≡ fits_card (Cert to agent key) (crypt_card c s k)
-certified c s k to agent key = go s.is k.is
-  where
-    go : (x y : Bool) →
-        ((x && eqb s.agent agent) && eqb s.key key) ≡
-        fits_card (Cert to agent key)
-        (choose x (card.Certificate c.first (record { agent = s.agent; key = s.key })) (choose y (card.Sent c.first k.first c.second) (card.Crypt c.first)))
-    go true y = refl
-    go false true = refl
-    go false false = refl
+sent : (x : Crypt) (s : Option Signed) (k : Option ℕ) (to secret : ℕ) → ((a : ℕ) → k ≡ Some a → s ≡ None) →
+    is_some_and k (λ agent. eqb agent to && eqb x.body secret) ≡ fits_card (Sent to secret) (crypt_card x s k)
+sent x (Some m) (Some a) to secret apart = unfound (apart _ refl) refl
+sent x (Some m) None to secret apart = refl
+sent x None (Some a) to secret apart = refl
+sent x None None to secret apart = refl
 
-sent : (c : Two) (s : Signed) (k : One) (to secret : ℕ) → (k.is ≡ true → s.is ≡ false) →
-    ((k.is && eqb k.first to) && eqb c.second secret) ≡ fits_card (Sent to secret) (crypt_card c s k)
-sent c s k to secret = go s.is k.is
-  where
-    go : (x y : Bool) → (y ≡ true → x ≡ false) →
-        ((y && eqb k.first to) && eqb c.second secret) ≡
-        fits_card (Sent to secret)
-        (choose x (card.Certificate c.first (record { agent = s.agent; key = s.key })) (choose y (card.Sent c.first k.first c.second) (card.Crypt c.first)))
-    go true true apart = absurd (true≢false (apart refl))
-    go true false apart = refl
-    go false true apart = refl
-    go false false apart = refl
+under : (x : Crypt) (s : Option Signed) (k : Option ℕ) (from key : ℕ) → eqb x.key key ≡ fits_card (Under from key) (crypt_card x s k)
+under x (Some m) k from key = refl
+under x None (Some a) from key = refl
+under x None None from key = refl
 
-under : (c : Two) (s : Signed) (k : One) (from key : ℕ) → eqb c.first key ≡ fits_card (Under from key) (crypt_card c s k)
-under c s k from key = go s.is k.is
-  where
-    go : (x y : Bool) →
-        eqb c.first key ≡
-        fits_card (Under from key)
-        (choose x (card.Certificate c.first (record { agent = s.agent; key = s.key })) (choose y (card.Sent c.first k.first c.second) (card.Crypt c.first)))
-    go true y = refl
-    go false true = refl
-    go false false = refl
+-- what is noted
+of_kept : (from agent secret : ℕ) (k : Option Kept) (n : Option Remembered) →
+    is_some_and k (λ m. eqb m.agent agent && eqb m.secret secret) ≡ fits_card (Secret from agent secret) (noted_with k n)
+of_kept from agent secret (Some m) n = refl
+of_kept from agent secret None (Some m) = refl
+of_kept from agent secret None None = refl
 
-needed : (p c : Bool) {q : Bool} → p ≡ q → (p ≡ true → c ≡ true) → p ≡ (c && q)
-needed p true e n = e
-needed p false e n = refuted p (λ t. true≢false (sym (n t)))
+of_session : (from sid a b m : ℕ) (k : Option Kept) (n : Option Remembered) → ((y : Remembered) → n ≡ Some y → k ≡ None) →
+    is_some_and n (λ y. eqb y.sid sid && eqb y.a a && eqb y.b b && eqb y.m m) ≡ fits_card (Session from sid a b m) (noted_with k n)
+of_session from sid a b m (Some x) (Some y) apart = unfound (apart _ refl) refl
+of_session from sid a b m (Some x) None apart = refl
+of_session from sid a b m None (Some y) apart = refl
+of_session from sid a b m None None apart = refl
 
 module _ (file : List ℕ) (r : ℕ) where
   abbrev Fits : Wanted → Bool
   Fits wanted = fits_card wanted (said_card file r)
 
-  abbrev c : Two
+  abbrev keys : Crypt → Option ℕ
+  keys x = public_of file x.key
+
+  abbrev c : Option Crypt
   c = crypt_of file r
 
-  abbrev s : Signed
+  abbrev s : Option Signed
   s = signed_of file r
 
-  abbrev k : One
-  k = public_of file c.first
+  abbrev h : Option Hello
+  h = hello_of file r
+
+  abbrev n : Option Reply
+  n = reply_of file r
 
   hello_for : (to agent sid : ℕ) → is_hello_for file r agent sid ≡ Fits (HelloFor to agent sid)
   hello_for to agent sid =
-      let m = hello_of file r in
-      gate2 m.is (eqb m.agent agent) (eqb m.sid sid) ∙
-      of_second (fits_card (HelloFor to agent sid)) _ _ _ _ c.is m.is (reply_of file r).is (hello_crypt file r)
-      (not_crypt (fits_card (HelloFor to agent sid)) c s k refl refl refl) refl refl
+      of_hello (fits_card (HelloFor to agent sid)) keys c s h n (hello_crypt file r) refl (λ x m. refl) (λ x a. refl) (λ x. refl) (λ m. refl)
 
   hello : (to agent na sid pa : ℕ) → is_hello file r agent na sid pa ≡ Fits (HelloTo to agent na sid pa)
   hello to agent na sid pa =
-      let m = hello_of file r in
-      gate4 m.is (eqb m.agent agent) (eqb m.na na) (eqb m.sid sid) (eqb m.pa pa) ∙
-      of_second (fits_card (HelloTo to agent na sid pa)) _ _ _ _ c.is m.is (reply_of file r).is (hello_crypt file r)
-      (not_crypt (fits_card (HelloTo to agent na sid pa)) c s k refl refl refl) refl refl
+      of_hello (fits_card (HelloTo to agent na sid pa)) keys c s h n (hello_crypt file r) refl (λ x m. refl) (λ x a. refl) (λ x. refl) (λ m. refl)
 
   hello_by : (from to na sid pa : ℕ) → is_hello file r from na sid pa ≡ Fits (HelloBy from to na sid pa)
   hello_by from to na sid pa =
-      let m = hello_of file r in
-      gate4 m.is (eqb m.agent from) (eqb m.na na) (eqb m.sid sid) (eqb m.pa pa) ∙
-      of_second (fits_card (HelloBy from to na sid pa)) _ _ _ _ c.is m.is (reply_of file r).is (hello_crypt file r)
-      (not_crypt (fits_card (HelloBy from to na sid pa)) c s k refl refl refl) refl refl
+      of_hello (fits_card (HelloBy from to na sid pa)) keys c s h n (hello_crypt file r) refl (λ x m. refl) (λ x a. refl) (λ x. refl) (λ m. refl)
 
   reply : (to nb sid pb : ℕ) → is_reply file r nb sid pb ≡ Fits (ReplyTo to nb sid pb)
   reply to nb sid pb =
-      let n = reply_of file r in
-      gate3 n.is (eqb n.nb nb) (eqb n.sid sid) (eqb n.pb pb) ∙
-      of_third (fits_card (ReplyTo to nb sid pb)) _ _ _ _ c.is (hello_of file r).is n.is (reply_crypt file r) (reply_hello file r)
-      (not_crypt (fits_card (ReplyTo to nb sid pb)) c s k refl refl refl) refl refl
+      of_reply (fits_card (ReplyTo to nb sid pb)) keys c s h n (reply_crypt file r) (reply_hello file r)
+      refl (λ x m. refl) (λ x a. refl) (λ x. refl) (λ m. refl)
 
   reply_by : (from to nb sid pb : ℕ) → is_reply file r nb sid pb ≡ Fits (ReplyBy from to nb sid pb)
   reply_by from to nb sid pb =
-      let n = reply_of file r in
-      gate3 n.is (eqb n.nb nb) (eqb n.sid sid) (eqb n.pb pb) ∙
-      of_third (fits_card (ReplyBy from to nb sid pb)) _ _ _ _ c.is (hello_of file r).is n.is (reply_crypt file r) (reply_hello file r)
-      (not_crypt (fits_card (ReplyBy from to nb sid pb)) c s k refl refl refl) refl refl
+      of_reply (fits_card (ReplyBy from to nb sid pb)) keys c s h n (reply_crypt file r) (reply_hello file r)
+      refl (λ x m. refl) (λ x a. refl) (λ x. refl) (λ m. refl)
 
   reply_with : (to nb : ℕ) → is_reply_with file r nb ≡ Fits (ReplyWith to nb)
   reply_with to nb =
-      let n = reply_of file r in
-      of_third (fits_card (ReplyWith to nb)) _ _ _ _ c.is (hello_of file r).is n.is (reply_crypt file r) (reply_hello file r)
-      (not_crypt (fits_card (ReplyWith to nb)) c s k refl refl refl) refl refl
+      of_reply (fits_card (ReplyWith to nb)) keys c s h n (reply_crypt file r) (reply_hello file r)
+      refl (λ x m. refl) (λ x a. refl) (λ x. refl) (λ m. refl)
 
-  cert : (to agent key : ℕ) → ((s.is && eqb s.agent agent) && eqb s.key key) ≡ Fits (Cert to agent key)
-  cert to agent key =
-      needed _ c.is (certified c s k to agent key) (λ t. cert_crypt file r (both3 s.is (eqb s.agent agent) (eqb s.key key) t).0) ∙
-      of_first (fits_card (Cert to agent key)) _ _ _ _ c.is (hello_of file r).is (reply_of file r).is refl refl refl
+  cert : (to agent key : ℕ) → is_some_and s (λ m. eqb m.agent agent && eqb m.key key) ≡ Fits (Cert to agent key)
+  cert to agent key = of_cert to agent key keys c s h n (cert_crypt file r)
 
-  secret_sent : (to secret : ℕ) → (((c.is && k.is) && eqb k.first to) && eqb c.second secret) ≡ Fits (Sent to secret)
+  secret_sent : (to secret : ℕ) →
+      is_some_and c (λ x. is_some_and (public_of file x.key) (λ agent. eqb agent to && eqb x.body secret)) ≡ Fits (Sent to secret)
   secret_sent to secret =
-      gate3 c.is k.is (eqb k.first to) (eqb c.second secret) ∙
-      ap (λ (x : Bool). c.is && x) (sent c s k to secret (sent_cert file r)) ∙
-      of_first (fits_card (Sent to secret)) _ _ _ _ c.is (hello_of file r).is (reply_of file r).is refl refl refl
+      of_crypt (fits_card (Sent to secret)) keys _ c s h n
+      (λ x e. sent x s (public_of file x.key) to secret (λ a p. sent_cert file r x a e p))
+      refl (λ m. refl) (λ m. refl)
 
-  under_key_lem : (from key : ℕ) → (c.is && eqb c.first key) ≡ Fits (Under from key)
+  under_key_lem : (from key : ℕ) → is_some_and c (λ x. eqb x.key key) ≡ Fits (Under from key)
   under_key_lem from key =
-      ap (λ (x : Bool). c.is && x) (under c s k from key) ∙
-      of_first (fits_card (Under from key)) _ _ _ _ c.is (hello_of file r).is (reply_of file r).is refl refl refl
+      of_crypt (fits_card (Under from key)) keys _ c s h n (λ x e. under x s (public_of file x.key) from key) refl (λ m. refl) (λ m. refl)
 
   abbrev Noted : Wanted → Bool
   Noted wanted = fits_card wanted (noted_with (kept_of file r) (remembered_of file r))
 
-  secret : (from agent pms : ℕ) →
-      (((kept_of file r).is && eqb (kept_of file r).agent agent) && eqb (kept_of file r).secret pms) ≡ Noted (Secret from agent pms)
-  secret from agent pms =
-      let m = kept_of file r in
-      gate2 m.is (eqb m.agent agent) (eqb m.secret pms) ∙
-      of_first (fits_card (Secret from agent pms)) _ _ card.Other _ m.is (remembered_of file r).is false refl refl refl
+  secret : (from agent pms : ℕ) → is_some_and (kept_of file r) (λ m. eqb m.agent agent && eqb m.secret pms) ≡ Noted (Secret from agent pms)
+  secret from agent pms = of_kept from agent pms (kept_of file r) (remembered_of file r)
 
   session : (from sid a b m : ℕ) →
-      (((((remembered_of file r).is && eqb (remembered_of file r).sid sid) && eqb (remembered_of file r).a a) && eqb (remembered_of file r).b b) &&
-      eqb (remembered_of file r).m m) ≡ Noted (Session from sid a b m)
-  session from sid a b m =
-      let n = remembered_of file r in
-      gate4 n.is (eqb n.sid sid) (eqb n.a a) (eqb n.b b) (eqb n.m m) ∙
-      of_second (fits_card (Session from sid a b m)) _ _ card.Other _ (kept_of file r).is n.is false (session_kept file r) refl refl refl
+      is_some_and (remembered_of file r) (λ y. eqb y.sid sid && eqb y.a a && eqb y.b b && eqb y.m m) ≡ Noted (Session from sid a b m)
+  session from sid a b m = of_session from sid a b m (kept_of file r) (remembered_of file r) (session_kept file r)
 
 -- the card is of a message that is said, or noted
 swapped : (g : Bool) {p q : Bool} → (g ≡ true → p ≡ q) → (g && p) ≡ (q && g)

@@ -1,9 +1,14 @@
 -- The card of an event: what its message is, as the searches compare it. No promise cites this file.
-use Rattle.std.specs.Prelude.{ℕ, Bool, false, ◌&&◌, List, eqb}
+use Rattle.std.specs.Prelude.{ℕ, Bool, false, ◌&&◌, List, Option, Some, None, eqb}
 use Rattle.laws.specs.Choose.{choose}
 use Rattle.forms.specs.Kinds.{crypt_of, public_of}
 use Rattle.forms.specs.Forms.{hello_of, reply_of, kept_of, signed_of, remembered_of}
-use Rattle.forms.specs.Flagged.{One, Two, Hello, Reply, Kept, Signed, Remembered}
+use Rattle.forms.specs.declared.leaves.Crypt.{Crypt}
+use Rattle.forms.specs.declared.Hello.{Hello}
+use Rattle.forms.specs.declared.Reply.{Reply}
+use Rattle.forms.specs.declared.Kept.{Kept}
+use Rattle.forms.specs.declared.Signed.{Signed}
+use Rattle.forms.specs.declared.Remembered.{Remembered}
 use Rattle.earlier.specs.Heard.{Heard}
 use Rattle.earlier.specs.declared.Wanted.{Wanted}
 use Rattle.earlier.specs.declared.Wanted.TheVariants.{HelloFor, HelloBy, HelloTo, ReplyWith, ReplyTo, ReplyBy, Cert, Secret, Sent, Session, Under}
@@ -12,26 +17,29 @@ use Rattle.earlier.specs.declared.cards.Card.TheVariants as card
 use Rattle.earlier.specs.Earlier.{said_to, said_by, noted_by}
 
 -- a Crypt: a certificate, a secret under a public key, or any other; each with the row of its key
-abbrev pub crypt_card : Two → Signed → One → Card
-crypt_card c s k =
-    choose s.is (card.Certificate c.first (record { agent = s.agent; key = s.key }))
-    (choose k.is (card.Sent c.first k.first c.second) (card.Crypt c.first))
+abbrev pub crypt_card : Crypt → Option Signed → Option ℕ → Card
+crypt_card c (Some m) k = card.Certificate c.key m
+crypt_card c None (Some agent) = card.Sent c.key agent c.body
+crypt_card c None None = card.Crypt c.key
 
--- what is said: a Crypt, CH, SH, or none that is looked for
-abbrev pub said_with : Two → Hello → Reply → Signed → One → Card
-said_with c m n s k =
-    choose c.is (crypt_card c s k)
-    (choose m.is (card.Hello (record { agent = m.agent; na = m.na; sid = m.sid; pa = m.pa }))
-    (choose n.is (card.Reply (record { nb = n.nb; sid = n.sid; pb = n.pb })) card.Other))
+-- what is said in the clear: CH, SH, or none that is looked for
+abbrev pub clear_card : Option Hello → Option Reply → Card
+clear_card (Some m) n = card.Hello m
+clear_card None (Some n) = card.Reply n
+clear_card None None = card.Other
 
 abbrev pub said_card : List ℕ → ℕ → Card
-said_card file r = let c = crypt_of file r in said_with c (hello_of file r) (reply_of file r) (signed_of file r) (public_of file c.first)
+said_card file r =
+    elim (crypt_of file r) [
+      | Some c ↦ crypt_card c (signed_of file r) (public_of file c.key)
+      | None ↦ clear_card (hello_of file r) (reply_of file r)
+    ]
 
 -- what is noted: {Agent B, PMS}, a session, or none
-abbrev pub noted_with : Kept → Remembered → Card
-noted_with k n =
-    choose k.is (card.Secret (record { agent = k.agent; secret = k.secret }))
-    (choose n.is (card.Session (record { sid = n.sid; a = n.a; b = n.b; m = n.m })) card.Other)
+abbrev pub noted_with : Option Kept → Option Remembered → Card
+noted_with (Some m) n = card.Secret m
+noted_with None (Some n) = card.Session n
+noted_with None None = card.Other
 
 abbrev pub card_of : List ℕ → Heard → Card
 card_of file h = choose h.says (said_card file h.row) (noted_with (kept_of file h.row) (remembered_of file h.row))

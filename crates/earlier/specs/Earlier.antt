@@ -1,6 +1,7 @@
 -- What a rule looks for among earlier events, as the code tests it: whole events, each with exactly that message.
 use Rattle.std.specs.Prelude.{ℕ, Bool, true, false, ◌&&◌, ◌||◌, not, List, eqb}
 use Rattle.laws.specs.First.{any}
+use Rattle.laws.specs.Options.{is_some_and}
 use Rattle.trace.specs.Events.{event_at}
 use Rattle.trace.specs.declared.Event.{Event}
 use Rattle.trace.specs.declared.Event.TheVariants.{Says, Notes}
@@ -29,24 +30,16 @@ noted_by h from = not h.says && eqb h.from from
 
 -- row r is CH with these parts; SH; and so on
 abbrev pub is_hello : List ℕ → ℕ → (agent na sid pa : ℕ) → Bool
-is_hello file r agent na sid pa =
-    let m = hello_of file r in
-    m.is && eqb m.agent agent && eqb m.na na && eqb m.sid sid && eqb m.pa pa
+is_hello file r agent na sid pa = is_some_and (hello_of file r) (λ m. eqb m.agent agent && eqb m.na na && eqb m.sid sid && eqb m.pa pa)
 
 abbrev pub is_hello_for : List ℕ → ℕ → (agent sid : ℕ) → Bool
-is_hello_for file r agent sid =
-    let m = hello_of file r in
-    m.is && eqb m.agent agent && eqb m.sid sid
+is_hello_for file r agent sid = is_some_and (hello_of file r) (λ m. eqb m.agent agent && eqb m.sid sid)
 
 abbrev pub is_reply : List ℕ → ℕ → (nb sid pb : ℕ) → Bool
-is_reply file r nb sid pb =
-    let m = reply_of file r in
-    m.is && eqb m.nb nb && eqb m.sid sid && eqb m.pb pb
+is_reply file r nb sid pb = is_some_and (reply_of file r) (λ m. eqb m.nb nb && eqb m.sid sid && eqb m.pb pb)
 
 abbrev pub is_reply_with : List ℕ → ℕ → ℕ → Bool
-is_reply_with file r nb =
-    let m = reply_of file r in
-    m.is && eqb m.nb nb
+is_reply_with file r nb = is_some_and (reply_of file r) (λ m. eqb m.nb nb)
 
 abbrev pub same_heard : Heard → Heard → Bool
 same_heard h g =
@@ -59,22 +52,14 @@ fits_in file (HelloTo to agent na sid pa) h = said_to h to && is_hello file h.ro
 fits_in file (ReplyWith to nb) h = said_to h to && is_reply_with file h.row nb
 fits_in file (ReplyTo to nb sid pb) h = said_to h to && is_reply file h.row nb sid pb
 fits_in file (ReplyBy from to nb sid pb) h = said_by h from to && is_reply file h.row nb sid pb
-fits_in file (Cert to agent key) h =
-    let m = signed_of file h.row in
-    said_to h to && (m.is && eqb m.agent agent && eqb m.key key)
+fits_in file (Cert to agent key) h = said_to h to && is_some_and (signed_of file h.row) (λ m. eqb m.agent agent && eqb m.key key)
 fits_in file (Secret from agent secret) h =
-    let m = kept_of file h.row in
-    noted_by h from && (m.is && eqb m.agent agent && eqb m.secret secret)
+    noted_by h from && is_some_and (kept_of file h.row) (λ m. eqb m.agent agent && eqb m.secret secret)
 fits_in file (Sent to secret) h =
-    let c = crypt_of file h.row in
-    let k = public_of file c.first in
-    said_to h to && (c.is && k.is && eqb k.first to && eqb c.second secret)
+    said_to h to && is_some_and (crypt_of file h.row) (λ c. is_some_and (public_of file c.key) (λ agent. eqb agent to && eqb c.body secret))
 fits_in file (Session from sid a b m) h =
-    let n = remembered_of file h.row in
-    noted_by h from && (n.is && eqb n.sid sid && eqb n.a a && eqb n.b b && eqb n.m m)
-fits_in file (Under from key) h =
-    let c = crypt_of file h.row in
-    (h.says && eqb h.from from) && (c.is && eqb c.first key)
+    noted_by h from && is_some_and (remembered_of file h.row) (λ n. eqb n.sid sid && eqb n.a a && eqb n.b b && eqb n.m m)
+fits_in file (Under from key) h = (h.says && eqb h.from from) && is_some_and (crypt_of file h.row) (λ c. eqb c.key key)
 
 -- some event before e fits
 unfoldable pub earlier : List ℕ → Wanted → ℕ → Bool

@@ -1,8 +1,9 @@
 -- What is kept of each event: its place in its box, the hash of its Finished, its card. No promise cites this file.
-use Rattle.std.specs.Prelude.{ℕ, suc, ◌+◌, ◌-◌, ◌*◌, ◌%◌, ◌<◌, ◌≤◌, Bool, true, false, ◌&&◌, not, List, Option, ◌≡◌, ltb, length, get_or, set, replicate}
+use Rattle.std.specs.Prelude.{ℕ, suc, ◌+◌, ◌-◌, ◌*◌, ◌%◌, ◌<◌, ◌≤◌, Bool, true, false, ◌&&◌, not, List, Option, Some, None, ◌≡◌, ltb, length, get_or, set, replicate}
 use Rattle.std.specs.Bool.{then_some}
 use Rattle.trace.specs.File.{row_limit, event_limit}
 use Rattle.laws.specs.Choose.{choose}
+use Rattle.forms.specs.Kinds.{server_in}
 use Rattle.forms.specs.Forms.{sealed_of}
 use Rattle.earlier.specs.Heard.{Heard}
 use Rattle.earlier.specs.declared.cards.Card.TheVariants as card
@@ -33,8 +34,10 @@ is_again file e link h = ltb 0 link && ltb link (e + 1) && same_heard (heard_at 
 -- the hash of a Finished of that side, by one more than its row; a row past the marks is some number above them
 abbrev pub seal_mark : List ℕ → Bool → ℕ → ℕ
 seal_mark file server r =
-    let f = sealed_of file r in
-    choose (f.is && choose server f.server (not f.server)) (choose (ltb f.hash row_limit) (f.hash + 1) 65535) 0
+    elim (sealed_of file r) [
+      | Some f ↦ choose (choose server (server_in f.role) (not (server_in f.role))) (choose (ltb f.hash row_limit) (f.hash + 1) 65535) 0
+      | None ↦ 0
+    ]
 
 abbrev pub seal_at : Boxes → Bool → ℕ → ℕ
 seal_at boxes server e = choose (ltb e event_limit) (get_or (choose server boxes.servers boxes.clients) e 0) 0

@@ -1,6 +1,6 @@
 // The card of an event: what its message is, with its parts. It is written once, when the event is kept, and every
 // search compares cards instead of reading messages again.
-ghost use Rattle.std.specs.Prelude.{◌≡◌, true};
+ghost use Rattle.std.specs.Prelude.{◌≡◌};
 ghost use Rattle.forms.specs.Kinds.{public_of};
 ghost use Rattle.forms.specs.Forms.{kept_of, signed_of, remembered_of};
 ghost use Rattle.earlier.specs.Earlier.{heard_in};
@@ -29,8 +29,7 @@ pub enum Card {
 }
 
 fn crypt_card(file: &[u8], r: u16, c: Crypt) -> Card
-    ensures { result ≡
-        crypt_card (record { is = true; first = c.key; second = c.body }) (signed_of file.now r) (public_of file.now c.key) }
+    ensures { result ≡ crypt_card c (signed_of file.now r) (public_of file.now c.key) }
 {
     if let Some(s) = forms::certificate(file, r) {
         return Card::Certificate(c.key, s);
