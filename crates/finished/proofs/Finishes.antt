@@ -186,6 +186,7 @@ module _ (file : List ℕ) (P : Promised file) (e : ℕ) (le : e < events_of fil
           IsSealed file (heard_at file e).row m paper.ClientRole SID M Na Pa A Nb Pb B →
           In (event.Notes A (session_note SID A B M)) (beginning file e) → past file e (Session m.a m.sid m.a m.b m.m) ≡ true
       noted {m = m} g k = session_complete file P e (not_later file P e le) m.a m.sid m.a m.b m.m (rw (← g.a, ← g.b) at k) g.sid g.m
+
       go : {E : event.event} → event_meant file (event_at file e) ≡ E → Step (bad file) (beginning file e) E 12 → client_resume file (past file e) (heard_at file e) ≡ true
       go q (ClientResume i j k) =
           let (m, g) = (shapes file P).sealed_complete _ (here_row file P e le) (says_told file (event_at file e) q).3 in
@@ -208,6 +209,7 @@ module _ (file : List ℕ) (P : Promised file) (e : ℕ) (le : e < events_of fil
           IsSealed file (heard_at file e).row m paper.ServerRole SID M Na Pa A Nb Pb B →
           In (event.Notes B (session_note SID A B M)) (beginning file e) → past file e (Session m.b m.sid m.a m.b m.m) ≡ true
       noted {m = m} g k = session_complete file P e (not_later file P e le) m.b m.sid m.a m.b m.m (rw (← g.a, ← g.b) at k) g.sid g.m
+
       go : {E : event.event} → event_meant file (event_at file e) ≡ E → Step (bad file) (beginning file e) E 13 → server_resume file (past file e) (heard_at file e) ≡ true
       go q (ServerResume i j k) =
           let (m, g) = (shapes file P).sealed_complete _ (here_row file P e le) (says_told file (event_at file e) q).3 in
@@ -231,6 +233,7 @@ module _ (file : List ℕ) (P : Promised file) (e : ℕ) (le : e < events_of fil
           IsSealed file (heard_at file e).row m paper.ClientRole SID M Na Pa A Nb Pb B → RowHolds file secret (paper.Nonce PMS) →
           In (event.Notes A (secret_note B PMS)) (beginning file e) → past file e (Secret m.a m.b secret) ≡ true
       kept {m = m} {secret = secret} g x k = secret_complete file P e (not_later file P e le) m.a m.b secret (rw (← g.a, ← g.b) at k) x
+
       go : {E : event.event} → event_meant file (event_at file e) ≡ E → Step (bad file) (beginning file e) E 8 → client_finished file (past file e) (heard_at file e) ≡ true
       go q (ClientFinished i j k) =
           let (m, g) = (shapes file P).sealed_complete _ (here_row file P e le) (says_told file (event_at file e) q).3 in
@@ -255,6 +258,7 @@ module _ (file : List ℕ) (P : Promised file) (e : ℕ) (le : e < events_of fil
           IsSealed file (heard_at file e).row m paper.ServerRole SID M Na Pa A Nb Pb B → RowHolds file secret (paper.Nonce PMS) →
           In (event.Says A' B (paper.Crypt (paper.pub_k B) (carried A PMS))) (beginning file e) → past file e (Sent m.b secret) ≡ true
       kept {m = m} {secret = secret} g x k = sent_complete file P e (not_later file P e le) m.b secret (rw (← g.b) at k) x
+
       go : {E : event.event} → event_meant file (event_at file e) ≡ E → Step (bad file) (beginning file e) E 9 → server_finished file (past file e) (heard_at file e) ≡ true
       go q (ServerFinished i j k) =
           let (m, g) = (shapes file P).sealed_complete _ (here_row file P e le) (says_told file (event_at file e) q).3 in

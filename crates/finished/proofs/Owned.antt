@@ -5,7 +5,6 @@ use mathlib.Core.Bool.{Bool, true, false, not, true≢false}
 use mathlib.Core.List.{List}
 use mathlib.Core.Path.{◌≡◌, refl, sym, ◌∙◌}
 use Rattle.std.specs.Prelude.{Option, Some, None}
-use Rattle.std.specs.Bool.{then_some}
 use Rattle.std.proofs.lemmas.Option.{none-some}
 use Rattle.trace.specs.declared.AgentNo.{AgentNo}
 use Rattle.trace.specs.declared.RowNo.{RowNo}
@@ -13,7 +12,6 @@ use Rattle.trace.specs.declared.Event.TheVariants.{Says}
 use Rattle.trace.specs.declared.Role.{Role}
 use Rattle.trace.specs.declared.Role.TheVariants.{Client, Server}
 use Rattle.laws.specs.Choose.{choose}
-use Rattle.laws.specs.Options.{and_then}
 use Rattle.laws.proofs.Both.{both3}
 use Rattle.laws.proofs.Options.{and_then_some, then_some_true}
 use Rattle.forms.specs.Kinds.{server_in}
@@ -48,6 +46,7 @@ not_own file from to row role u = go (own_finished file h role) refl
   where
     h : Heard
     h = heard_in (Says from to row)
+
     go : (o : Option Sealed) → own_finished file h role ≡ o → own_finished file h role ≡ None
     go None e = e
     go (Some m) e =
