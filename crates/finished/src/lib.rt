@@ -2,7 +2,6 @@
 #![tactic(auto)]
 
 ghost use Rattle.std.specs.Prelude.{◌≡◌};
-ghost use Rattle.forms.specs.Kinds.{server_in, prf_of};
 ghost use Rattle.earlier.specs.Boxes.{found};
 ghost use Rattle.earlier.specs.Earlier.{heard_in};
 ghost use Rattle.finished.specs.Tests.{own_finished, secret_of, greeted, client_finished, server_finished, client_resume, server_resume};
@@ -12,9 +11,9 @@ use forms::Sealed;
 use trace::{Event, Role};
 
 // The Finished of that role, said by its own side: the client's by A to B, the server's by B to A.
-#[tactic(auto, using(forms::proofs::Keyed::unsealed))]
+#[tactic(auto, using(crate::proofs::Owned::not_own))]
 fn own_finished(file: &[u8], event: Event, role: Role) -> Option<Sealed>
-    ensures { result ≡ own_finished file.now (heard_in event) (server_in role) }
+    ensures { result ≡ own_finished file.now (heard_in event) role }
 {
     let Event::Says(from, to, row) = event else {
         return None;
@@ -33,7 +32,7 @@ fn own_finished(file: &[u8], event: Event, role: Role) -> Option<Sealed>
 
 // The secret of a Finished whose M is the PRF of it and the same Na and Nb.
 fn secret_of(file: &[u8], m: Sealed) -> Option<u16>
-    ensures { result ≡ secret_of (prf_of file.now m.m) m.na m.nb }
+    ensures { result ≡ secret_of file.now m }
 {
     let p = forms::leaves::prf_of(file, m.m)?;
     let same = p.na == m.na && p.nb == m.nb;
