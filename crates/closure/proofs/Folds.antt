@@ -11,7 +11,7 @@ use Rattle.laws.specs.Choose.{choose}
 use Rattle.trace.specs.Events.{event_at}
 use Rattle.trace.specs.Kinds.{row_at}
 use Rattle.closure.specs.declared.Known.{Known}
-use Rattle.closure.specs.Closure.{see_event, known_after, State, state_of, know, up_rows, down_rows, pass_rows, settle, start_keys, key_known, mark_row, start_rows, reopens, reopen_row, Reaches}
+use Rattle.closure.specs.Closure.{zeros, key_room, see_event, known_after, State, state_of, know, up_rows, down_rows, pass_rows, settle, start_keys, key_known, mark_row, start_rows, reopens, reopen_row, Reaches}
 use mathlib.Core.Logic.{◌⊎◌, inl, inr}
 use borrow.Author.Tests.{le-ltb}
 use Rattle.laws.proofs.Both.{or_none}
@@ -122,6 +122,12 @@ module _ (file : List ℕ) where
       settle file (row_limit - p) (state_of rs ks f) ≡ t → state_of rs' ks' g ≡ pass_rows file (rows_of file) rs ks →
       settle file (row_limit - (p + 1)) (state_of rs' ks' g) ≡ t
   see_more p rs ks rs' ks' {f} {g} l z q r = rw (← q, z, r) (sym (settle_pass p rs ks l))
+
+  -- the state of the first event is what the start gives
+  pub known_start : {known : Known} → known.keys ≡ start_keys file agent_limit (zeros key_room) →
+      known.rows ≡ start_rows file (start_keys file agent_limit (zeros key_room)) (rows_of file) (zeros row_limit) → known ≡ known_after file 0
+  unfolding known_after
+  known_start keys rows = λ j. record { rows = rows j; keys = keys j }
 
   pub known_more : (e : ℕ) (known known' : Known) → known ≡ known_after file e → known' ≡ see_event file known.rows known.keys (event_at file e) →
       known' ≡ known_after file (e + 1)

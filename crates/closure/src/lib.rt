@@ -4,7 +4,7 @@
 ghost use Rattle.std.specs.Prelude.{true, ◌≡◌, suc, length, set};
 ghost use Rattle.trace.specs.File.{agent_limit, rows_of};
 ghost use Rattle.trace.specs.Events.{event_at};
-ghost use Rattle.closure.specs.Closure.{state_of, marked, row_marked, opens, below, learn_row, reopen_row, up_rows, down_rows, pass_rows, Reaches, see_row, see_event, start_keys, key_known, start_rows, known_after};
+ghost use Rattle.closure.specs.Closure.{state_of, marked, row_marked, opens, below, learn_row, reopen_row, up_rows, down_rows, pass_rows, Reaches, see_row, see_event, start_keys, key_known, start_rows};
 
 use trace::limits::{AGENT_LIMIT, AGENTS, ROW_LIMIT, ROWS};
 use trace::{AgentNo, Event, EventNo, Row, RowNo};
@@ -23,6 +23,12 @@ pub struct Known {
     pub rows: [u8; ROW_LIMIT],
     pub keys: [u8; KEYS],
 }
+
+// What is known before anything is.
+pub const NOTHING: Known = Known {
+    rows: [0; ROW_LIMIT],
+    keys: [0; KEYS],
+};
 
 // Whether a place has its mark: none past the end has.
 fn marked(marks: &[u8], at: usize) -> bool
@@ -55,20 +61,7 @@ fn reach(file: &[u8]) -> u16
 }
 
 impl Known {
-    // The starting knowledge: the private keys of compromised agents, and the rows that hold them.
-    #[tactic(auto, unfolding(crate::specs::Closure::known_after))]
-    pub fn start(file: &[u8]) -> Known
-        ensures { result ≡ known_after file.now 0 }
-    {
-        let mut known = Known {
-            rows: [0; ROW_LIMIT],
-            keys: [0; KEYS],
-        };
-        known.see_start(file);
-        known
-    }
-
-    // The same, added to any marks.
+    // The starting knowledge is added: the private keys of compromised agents, and the rows that hold them.
     pub fn see_start(&mut self, file: &[u8])
         ensures keys_after { self.new.keys ≡ start_keys file.now agent_limit self.old.keys }
         ensures rows_after { self.new.rows ≡

@@ -11,7 +11,7 @@ ghost use Rattle.forms.specs.Kinds.{server_in};
 ghost use Rattle.earlier.specs.Earlier.{heard_in, heard_at};
 ghost use Rattle.earlier.specs.Boxes.{box_count, slot_count, box_of, box_for, latest_to, next, chain_from, rest_of, some, fits_at, found_in, found};
 ghost use Rattle.std.specs.Iterator.{YieldsFirst, item_count};
-ghost use Rattle.earlier.specs.Kept.{none_kept, slot_of, is_again, seal_mark, sealed_at, boxed_in, kept_in};
+ghost use Rattle.earlier.specs.Kept.{slot_of, is_again, seal_mark, sealed_at, boxed_in, kept_in};
 
 use super::cards::Card;
 use super::{Wanted, cards};
@@ -32,29 +32,23 @@ const FAR: u16 = 65535;
 // client's and as a server's, and its card; and the slots.
 #[derive(Drop)]
 pub struct Boxes {
-    heads: [u16; BOXES],
-    links: [u16; EVENT_LIMIT],
-    slots: [u16; SLOTS],
-    clients: [u16; EVENT_LIMIT],
-    servers: [u16; EVENT_LIMIT],
-    cards: [Card; EVENT_LIMIT],
+    pub heads: [u16; BOXES],
+    pub links: [u16; EVENT_LIMIT],
+    pub slots: [u16; SLOTS],
+    pub clients: [u16; EVENT_LIMIT],
+    pub servers: [u16; EVENT_LIMIT],
+    pub cards: [Card; EVENT_LIMIT],
 }
 
-impl Boxes {
-    // Before any event.
-    pub fn new() -> Boxes
-        ensures { result ≡ none_kept }
-    {
-        Boxes {
-            heads: [0; BOXES],
-            links: [0; EVENT_LIMIT],
-            slots: [0; SLOTS],
-            clients: [0; EVENT_LIMIT],
-            servers: [0; EVENT_LIMIT],
-            cards: [Card::Other; EVENT_LIMIT],
-        }
-    }
-}
+// Before any event.
+pub const EMPTY: Boxes = Boxes {
+    heads: [0; BOXES],
+    links: [0; EVENT_LIMIT],
+    slots: [0; SLOTS],
+    clients: [0; EVENT_LIMIT],
+    servers: [0; EVENT_LIMIT],
+    cards: [Card::Other; EVENT_LIMIT],
+};
 
 fn box_of(event: Event) -> u16
     ensures { (result ≡ box_of (heard_in event)) × (result < box_count) }
@@ -87,14 +81,14 @@ fn box_for(wanted: Wanted) -> Option<u16>
 }
 
 // The latest event that was said to an agent: one more than its number, or 0.
-fn latest_to(boxes: &Boxes, to: u16) -> u16
+pub fn latest_to(boxes: &Boxes, to: u16) -> u16
     ensures { result ≡ latest_to boxes.now to }
 {
     boxes.heads[usize::from(to % AGENTS)]
 }
 
 // The next link of a chain. It falls, so that every walk ends, whatever the links are.
-fn next(boxes: &Boxes, link: u16) -> u16
+pub fn next(boxes: &Boxes, link: u16) -> u16
     ensures { result ≡ next boxes.now link }
 {
     if link == 0 || EVENTS < link {

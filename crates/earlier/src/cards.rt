@@ -14,6 +14,8 @@ use trace::Event;
 // A message as the searches compare it.
 #[derive(Clone, Copy)]
 pub enum Card {
+    // None that is looked for; the first, so that a card of zeros is one.
+    Other,
     Hello(Hello),
     Reply(Reply),
     Secret(Kept),
@@ -24,8 +26,6 @@ pub enum Card {
     Sent(u16, u16, u16),
     // Any other Crypt: the row of its key.
     Crypt(u16),
-    // None that is looked for.
-    Other,
 }
 
 fn crypt_card(file: &[u8], r: u16, c: Crypt) -> Card

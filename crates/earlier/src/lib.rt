@@ -7,7 +7,7 @@ mod cards;
 ghost use Rattle.std.specs.Prelude.{◌≡◌};
 ghost use Rattle.earlier.specs.Earlier.{heard_in, said_to, said_by, noted_by};
 
-pub use boxes::{Boxes, happened};
+pub use boxes::{Boxes, EMPTY, happened};
 use trace::Event;
 
 // What a rule looks for: agents by their numbers, other parts by their rows.

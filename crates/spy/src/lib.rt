@@ -8,26 +8,19 @@ ghost use Rattle.closure.specs.Closure.{known_after};
 ghost use Rattle.spy.specs.Knowledge.{Knows};
 ghost use Rattle.spy.specs.Reply.{marks_after, answer_readable, bytes_readable};
 
-use closure::Known;
+use closure::NOTHING;
 use trace::{Cause, EventNo};
 
-// What is known after the first n events.
+// A mark for each row after the first n events. What is known stands in one place all along, and is never copied.
 #[tactic(auto, using(closure::proofs::Folds::known_more))]
-fn know(file: &[u8], n: u16) -> Known
-    ensures { result ≡ known_after file.now n }
-{
-    let mut known = Known::start(file);
-    for e in 0..n {
-        known.see_event(file, EventNo(e));
-    }
-    known
-}
-
-// A mark for each row after the first n events.
 fn write(file: &[u8], n: u16, buffer: &mut [u8])
     ensures { buffer.new ≡ marks_after file.now n buffer.old }
 {
-    let known = know(file, n);
+    let mut known = NOTHING;
+    known.see_start(file);
+    for e in 0..n {
+        known.see_event(file, EventNo(e));
+    }
     made::write_marks(file, &known.rows, buffer, trace::row_count(file));
 }
 

@@ -7,10 +7,11 @@ use mathlib.Core.Path.{◌≡◌, refl, sym, ◌∙◌, ap, subst}
 use Rattle.std.specs.Prelude.{Option}
 use Rattle.laws.specs.Choose.{choose}
 use Rattle.trace.specs.declared.Event.{Event}
-use Rattle.trace.specs.File.{row_limit, event_limit}
+use Rattle.trace.specs.File.{row_limit, event_limit, agent_limit, rows_of}
 use Rattle.trace.specs.Events.{event_at}
 use Rattle.closure.specs.declared.Known.{Known}
-use Rattle.closure.specs.Closure.{see_event, known_after, zeros}
+use Rattle.closure.specs.Closure.{see_event, known_after, zeros, key_room, start_keys, start_rows}
+use Rattle.closure.proofs.Folds.{known_start}
 use Rattle.used.specs.Marking.{use_event, used_after}
 use Rattle.earlier.specs.Heard.{Heard}
 use Rattle.earlier.specs.Earlier.{heard_in, past}
@@ -29,10 +30,17 @@ use Rattle.walk.specs.declared.State.{State}
 use Rattle.walk.specs.Lowest.{or_none, lowest_said, lowest_noted, lowest_rule, rule_of, exchange_of}
 use Rattle.walk.specs.Pace.{Before}
 
-pub before_first : (file : List ℕ) {k : Known} {bs : Boxes} → k ≡ known_after file 0 → bs ≡ none_kept →
-    Before file 0 (record { used = zeros row_limit; known = k; boxes = bs; made = zeros row_limit })
+pub before_first : (file : List ℕ) {k : Known} → k.keys ≡ start_keys file agent_limit (zeros key_room) →
+    k.rows ≡ start_rows file (start_keys file agent_limit (zeros key_room)) (rows_of file) (zeros row_limit) →
+    Before file 0 (record { used = zeros row_limit; known = k; boxes = none_kept; made = zeros row_limit })
 unfolding used_after
-before_first file {k} {bs} q n = record { uses = refl; sees = q; kept = rw n (none_boxed file); makes = none_sound file k.rows }
+before_first file {k} keys rows =
+    record {
+      uses = refl;
+      sees = known_start file keys rows;
+      kept = none_boxed file;
+      makes = none_sound file k.rows;
+    }
 
 module _ (file : List ℕ) (i : ℕ) (s : State) (b : Before file i s) where
   -- what an event teaches makes nothing forgotten

@@ -9,7 +9,7 @@ ghost use Rattle.walk.specs.Lowest.{or_none, rule_of, exchange_of};
 ghost use Rattle.walk.specs.Pace.{pace, paced, Before};
 ghost use Rattle.walk.specs.Walk.{cleared, walkable, walk_file};
 
-use closure::{Known, put};
+use closure::{Known, NOTHING, put};
 use earlier::Boxes;
 use trace::EventNo;
 use trace::limits::{EVENTS, ROW_LIMIT};
@@ -26,18 +26,15 @@ struct State {
     made: [u8; ROW_LIMIT],
 }
 
-impl State {
-    fn start(file: &[u8]) -> State
-        ensures { Before file.now 0 result }
-    {
-        State {
-            used: [0; ROW_LIMIT],
-            known: Known::start(file),
-            boxes: Boxes::new(),
-            made: [0; ROW_LIMIT],
-        }
-    }
+// Before any event, and before the starting knowledge. The state stands in one place all along, and is never copied.
+const EMPTY: State = State {
+    used: [0; ROW_LIMIT],
+    known: NOTHING,
+    boxes: earlier::EMPTY,
+    made: [0; ROW_LIMIT],
+};
 
+impl State {
     // An event is added: the rows of its message are used, the spy sees it, and it lies in its box.
     fn take(&mut self, file: &[u8], e: u16)
         requires before { Before file.now e self.old }
@@ -115,7 +112,8 @@ pub fn walk_events(file: &[u8], rules: &mut [u8]) -> u16
     ensures rules_after { rules.new ≡ (walk_file file.now rules.old).bytes }
 {
     let events = walkable(file);
-    let mut state = State::start(file);
+    let mut state = EMPTY;
+    state.known.see_start(file);
     let mut i = 0;
     while i < events {
         let Some(taken) = state.advance(file, rules, i, events) else {

@@ -4,13 +4,14 @@ use mathlib.Core.Path.{refl, sym, ◌∙◌}
 use native.Mathlib.Omega.{arith}
 use Rattle.walk.specs.Lowest.{rule_of, exchange_of}
 use Rattle.walk.proofs.Paces.{rest_whole, rest_end, rest_stop, rest_more, paced_same, pace_within, taken_some, taken_none, walk_ends}
+use Rattle.walk.proofs.States.{before_first}
 use Rattle.walk.proofs.walk_events.Goals as goal
 
 pub loop-i-init : goal.loop-i-init
 loop-i-init c =
     let f = c.args.file.now in record {
       within = omega arith;
-      before = c.start-state.ensures;
+      before = before_first f c.see_start.ensures.keys_after c.see_start.ensures.rows_after;
       rest = rest_whole (rule_of f) (exchange_of f) c.walkable-events.result _;
     }
 
