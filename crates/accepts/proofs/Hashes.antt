@@ -1,7 +1,7 @@
 -- The marks of hashes: a row below 1024 is marked exactly when a Finished with that hash was told.
 -- Assumes nothing.
-use Prim.Native.Nat.{ℕ, zero, suc, ◌+◌, ◌-◌, ◌%◌, ◌<◌, ◌≤◌}
-use mathlib.Core.Bool.{Bool, true, false, ◌&&◌, ◌||◌, not, true≢false}
+use Prim.Native.Nat.{ℕ, ◌+◌, ◌-◌, ◌%◌, ◌<◌, ◌≤◌}
+use mathlib.Core.Bool.{Bool, true, false, ◌&&◌, ◌||◌, not}
 use mathlib.Core.List.{List}
 use mathlib.Core.Path.{◌≡◌, refl, sym, ◌∙◌, ap}
 use native.Mathlib.Omega.{arith}
@@ -10,28 +10,31 @@ use native.Mathlib.Decide.{ℕ_discrete, dec_lt}
 use lib.Dec.{eqb, ltb}
 use lib.ListN.{length, length-replicate}
 use borrow.Author.Tests.{lt-ltb, le-ltb, eq-eqb, eqb-true}
+use Rattle.std.specs.Prelude.{Option, Some, None}
 use Rattle.trace.specs.File.{row_limit, agent_limit}
 use Rattle.laws.specs.First.{any}
 use Rattle.laws.specs.Choose.{choose}
 use Rattle.laws.proofs.Both.{both, refuted, or_true, or_none, or_assoc, and_true, and_false}
-use Rattle.forms.specs.Kinds.{server_in}
+use Rattle.laws.specs.Options.{is_some_and}
+use Rattle.laws.proofs.Options.{is_some_and_true}
+use Rattle.forms.specs.Kinds.{server_in, crypt_of}
 use Rattle.forms.specs.Forms.{sealed_of}
+use Rattle.forms.specs.declared.leaves.Crypt.{Crypt}
+use Rattle.forms.specs.declared.Sealed.{Sealed}
+use Rattle.forms.proofs.Keyed.{sealed_key}
 use Rattle.closure.specs.Closure.{row_marked, mark_row, zeros}
 use Rattle.closure.proofs.Marks.{mark_same, mark_other, mark_room, none_marked}
-use Rattle.forms.proofs.Keyed.{hash_row}
 use Rattle.earlier.specs.declared.boxes.Boxes.{Boxes}
 use Rattle.earlier.specs.Heard.{Heard}
 use Rattle.earlier.specs.Earlier.{heard_at, said_to, said_by}
 use Rattle.earlier.specs.Boxes.{latest_to, chain_from, some}
-use Rattle.earlier.specs.Kept.{seal_mark, seal_at, Boxed}
+use Rattle.earlier.specs.Kept.{seal_at, Boxed}
 use Rattle.earlier.proofs.Chains.{Below, none, more, chain_below, some_same}
 use Rattle.earlier.proofs.Finding.{said_box, by_box, chain_any}
 use Rattle.accepts.specs.declared.Session.{Session}
 use Rattle.accepts.specs.declared.Side.{Side}
 use Rattle.accepts.specs.Tests.{said_finished, told_finished, both_finished}
-use Rattle.accepts.specs.Hashes.{told_here, mark_event, mark_all, answered_in, agreed_in, both_in}
-use Rattle.accepts.proofs.Branches.{hash_last}
-use Rattle.accepts.proofs.Accepts.{both8}
+use Rattle.accepts.specs.Hashes.{mark_event, mark_all, answered_in, agreed_in, both_in}
 
 -- one event's mark
 mark_if : (marks : List ℕ) → length marks ≡ row_limit → (t : Bool) (r x : ℕ) → x < row_limit →
@@ -51,30 +54,34 @@ mark_length : (marks : List ℕ) → length marks ≡ row_limit → (t : Bool) (
 mark_length marks room true r = mark_room marks room r
 mark_length marks room false r = room
 
-pub any_same : (p q : ℕ → Bool) → ((k : ℕ) → p k ≡ q k) → (n : ℕ) → any p n ≡ any q n
-unfolding any
-any_same p q h zero = refl
-any_same p q h (suc n) = rw (any_same p q h n, h n) refl
+-- the seal of a Finished that is found
+abbrev seal_in : Bool → Option Sealed → ℕ
+seal_in server o =
+    elim o [
+      | Some f ↦ choose (choose server (server_in f.role) (not (server_in f.role))) (choose (ltb f.hash row_limit) (f.hash + 1) 65535) 0
+      | None ↦ 0
+    ]
 
 -- a seal that is not 0 has the hash of a Finished that is told
-seal_told : (said is : Bool) (hash x : ℕ) → x < row_limit →
-    ((said && ltb 0 (choose is (choose (ltb hash row_limit) (hash + 1) 65535) 0)) && eqb (choose is (choose (ltb hash row_limit) (hash + 1) 65535) 0 - 1) x) ≡
-    ((said && is) && eqb hash x)
-seal_told true false hash x l = refl
-seal_told false false hash x l = refl
-seal_told said true hash x l = go (dec_lt hash row_limit)
+hash_told : (said own : Bool) (hash x : ℕ) → x < row_limit →
+    ((said && ltb 0 (choose own (choose (ltb hash row_limit) (hash + 1) 65535) 0)) && eqb (choose own (choose (ltb hash row_limit) (hash + 1) 65535) 0 - 1) x) ≡
+    (said && (eqb hash x && own))
+hash_told true false hash x l = sym (and_false (eqb hash x))
+hash_told false false hash x l = refl
+hash_told said true hash x l = go (dec_lt hash row_limit)
   where
     go : Dec (hash < row_limit) →
         ((said && ltb 0 (choose (ltb hash row_limit) (hash + 1) 65535)) && eqb (choose (ltb hash row_limit) (hash + 1) 65535 - 1) x) ≡
-        ((said && true) && eqb hash x)
+        (said && (eqb hash x && true))
     go (yes m) =
         let one : hash + 1 - 1 ≡ hash = omega arith in
-        rw (lt-ltb hash row_limit m, lt-ltb 0 (hash + 1) (omega arith), one) refl
+        rw (lt-ltb hash row_limit m, lt-ltb 0 (hash + 1) (omega arith), one, and_true said, and_true (eqb hash x)) refl
     go (no m) =
         rw (
           le-ltb hash row_limit (omega arith),
           refuted (eqb (65535 - 1) x) (λ t. far x l (eqb-true (65535 - 1) x t)),
           refuted (eqb hash x) (λ t. past_marks x l (eqb-true hash x t)),
+          and_true said,
         )
         refl
       where
@@ -84,25 +91,23 @@ seal_told said true hash x l = go (dec_lt hash row_limit)
         past_marks : (x : ℕ) → x < row_limit → hash ≡ x → ⊥
         past_marks x l q = omega arith
 
-module _ (file : List ℕ) (server : Bool) (to : ℕ) where
-  pub told_last : (j hash : ℕ) → told_finished file (heard_at file j) server to hash ≡
-      (told_here file (heard_at file j) server to && eqb (sealed_of file (heard_at file j).row).hash hash)
-  told_last j hash =
-      let h = heard_at file j in
-      let f = sealed_of file h.row in
-      hash_last (said_to h to) f.is (eqb f.hash hash) (choose server f.server (not f.server))
+seal_told : (said server : Bool) (o : Option Sealed) (x : ℕ) → x < row_limit →
+    ((said && ltb 0 (seal_in server o)) && eqb (seal_in server o - 1) x) ≡
+    (said && is_some_and o (λ f. eqb f.hash x && choose server (server_in f.role) (not (server_in f.role))))
+seal_told said server (Some f) x l = hash_told said (choose server (server_in f.role) (not (server_in f.role))) f.hash x l
+seal_told true server None x l = refl
+seal_told false server None x l = refl
 
+module _ (file : List ℕ) (server : Bool) (to : ℕ) where
   module _ (boxes : Boxes) (e : ℕ) (X : Boxed file boxes e) where
     marked_more : (marks : List ℕ) → length marks ≡ row_limit → (j x : ℕ) → j < e → x < row_limit →
         row_marked (mark_event file boxes server to j marks) x ≡ (row_marked marks x || told_finished file (heard_at file j) server to x)
     marked_more marks room j x m l =
         let h = heard_at file j in
-        let f = sealed_of file h.row in
         mark_if marks room (said_to h to && ltb 0 (seal_at boxes server j)) (seal_at boxes server j - 1) x l ∙
         ap (λ (b : Bool). row_marked marks x || b)
         (ap (λ (v : ℕ). (said_to h to && ltb 0 v) && eqb (v - 1) x) (X.seals server j m) ∙
-        seal_told (said_to h to) (f.is && choose server f.server (not f.server)) f.hash x l ∙
-        sym (told_last j x))
+        seal_told (said_to h to) server (sealed_of file h.row) x l)
 
     all_marked : {js : List ℕ} → Below e js → (marks : List ℕ) → length marks ≡ row_limit → (x : ℕ) → x < row_limit →
         row_marked (mark_all file boxes server to js marks) x ≡ (row_marked marks x || some (λ j. told_finished file (heard_at file j) server to x) js)
@@ -135,15 +140,24 @@ module _ (file : List ℕ) (server : Bool) (to : ℕ) where
         go (no l) = rw (le-ltb hash row_limit (omega arith)) refl
 
 -- a Finished has a seal
-seal_some : (is small : Bool) (hash : ℕ) → is ≡ true → ltb 0 (choose is (choose small (hash + 1) 65535) 0) ≡ true
-seal_some true true hash t = lt-ltb 0 (hash + 1) (omega arith)
-seal_some true false hash t = refl
-seal_some false small hash t = absurd (true≢false (sym t))
+seal_some : (small : Bool) (hash : ℕ) → ltb 0 (choose small (hash + 1) 65535) ≡ true
+seal_some true hash = lt-ltb 0 (hash + 1) (omega arith)
+seal_some false hash = refl
+
+seal_found : (server : Bool) {o : Option Sealed} {f : Sealed} → o ≡ Some f → choose server (server_in f.role) (not (server_in f.role)) ≡ true →
+    ltb 0 (seal_in server o) ≡ true
+seal_found server {f = f} e own = rw (e, own) (seal_some (ltb f.hash row_limit) f.hash)
+
+-- and is a Crypt whose body is its hash
+same_body : (test : ℕ → Bool) {k : Option Crypt} {o : Option Sealed} {c : Crypt} {f : Sealed} → k ≡ Some c → o ≡ Some f → c.body ≡ f.hash →
+    is_some_and k (λ c. test c.body) ≡ is_some_and o (λ f. test f.hash)
+same_body test ek eo b = rw (ek, eo, b) refl
 
 -- the order of the tests does not matter where the last implies the first two
-reorder : (said own told whole : Bool) → (whole ≡ true → (said ≡ true) × (own ≡ true)) → (said && own && told && whole) ≡ (whole && told)
-reorder said own told true h = let p = h refl in rw (p.0, p.1) (and_true told)
-reorder said own told false h = and_false (said && own && told)
+reorder : (said own told told' whole : Bool) → (whole ≡ true → (said ≡ true) × (own ≡ true) × (told ≡ told')) →
+    (said && own && told && whole) ≡ (whole && told')
+reorder said own told told' true h = let p = h refl in rw (p.0, p.1, p.2) (and_true told')
+reorder said own told told' false h = and_false (said && own && told)
 
 -- the two passes find what two searches would
 module _ (file : List ℕ) (boxes : Boxes) (e : ℕ) (X : Boxed file boxes e) where
@@ -154,25 +168,32 @@ module _ (file : List ℕ) (boxes : Boxes) (e : ℕ) (X : Boxed file boxes e) wh
     abbrev told : List ℕ
     told = marks file (not server) by.from boxes e X
 
+    abbrev answered_by : ℕ → Bool
+    answered_by hash = answered_in file told e (not server) by.from hash
+
     abbrev agreed_by : Heard → Bool
-    agreed_by h = said_finished file h by s && answered_in file told e (not server) by.from (sealed_of file h.row).hash
+    agreed_by h = said_finished file h by s && is_some_and (sealed_of file h.row) (λ f. answered_by f.hash)
+
+    agreed_parts : (i : ℕ) → i < e → said_finished file (heard_at file i) by s ≡ true →
+        (said_by (heard_at file i) by.from by.to ≡ true) × (ltb 0 (seal_at boxes server i) ≡ true) ×
+        (is_some_and (crypt_of file (heard_at file i).row) (λ c. answered_by c.body) ≡
+        is_some_and (sealed_of file (heard_at file i).row) (λ f. answered_by f.hash))
+    agreed_parts i l t =
+        let h = heard_at file i in
+        let p = both (said_by h by.from by.to) _ t in
+        let (f, ef, tf) = is_some_and_true p.1 in
+        let own = both _ _ tf in
+        let (c, _, ec, _, body, _) = sealed_key file h.row ef in (
+          p.0,
+          ap (ltb 0) (X.seals server i l) ∙ seal_found server ef own.1,
+          same_body answered_by ec ef body,
+        )
 
     agreed_same : (i : ℕ) → i < e → agreed_in file boxes told e by s i ≡ agreed_by (heard_at file i)
     agreed_same i l =
         let h = heard_at file i in
-        rw (hash_row file h.row)
-        (reorder (said_by h by.from by.to) (ltb 0 (seal_at boxes server i))
-        (answered_in file told e (not server) by.from (sealed_of file h.row).hash)
-        (said_finished file h by s)
-        (λ t. ((both (said_by h by.from by.to) _ t).0, rw (X.seals server i l) (own t))))
-      where
-        own : said_finished file (heard_at file i) by s ≡ true → ltb 0 (seal_mark file server (heard_at file i).row) ≡ true
-        own t =
-            let h = heard_at file i in
-            let f = sealed_of file h.row in
-            let p = both (said_by h by.from by.to) _ t in
-            let q = both8 f.is (eqb f.sid s.sid) (eqb f.a s.a) (eqb f.b s.b) (eqb f.m s.m) (eqb f.na s.na) (eqb f.nb s.nb) (choose server f.server (not f.server)) p.1 in
-            seal_some (f.is && choose server f.server (not f.server)) (ltb f.hash row_limit) f.hash (rw (q.0, q.7) refl)
+        reorder (said_by h by.from by.to) (ltb 0 (seal_at boxes server i)) (is_some_and (crypt_of file h.row) (λ c. answered_by c.body))
+        (is_some_and (sealed_of file h.row) (λ f. answered_by f.hash)) (said_finished file h by s) (agreed_parts i l)
 
     both_at : both_in file boxes e by s ≡ both_finished file e by s
     unfolding both_in both_finished
@@ -182,8 +203,9 @@ module _ (file : List ℕ) (boxes : Boxes) (e : ℕ) (X : Boxed file boxes e) wh
         some_same boxes _ agreed_same (chain_below boxes e (latest_to boxes by.to) low) ∙
         chain_any file boxes e X.links agreed_by (by.to % agent_limit) (omega (arith, l))
         (λ h t. by_box h by.from by.to (both (said_by h by.from by.to) _ (both _ _ t).0).0) ∙
-        any_same _ _
-        (λ (i : ℕ). rw (answered_told file (not server) by.from boxes e X (sealed_of file (heard_at file i).row).hash) refl) e
+        (λ j. any
+        (λ i. said_finished file (heard_at file i) by s &&
+        is_some_and (sealed_of file (heard_at file i).row) (λ f. answered_told file (not server) by.from boxes e X f.hash j)) e)
 
   pub both_past : both_in file boxes e ≡ both_finished file e
   both_past = λ i by s. both_at by s i

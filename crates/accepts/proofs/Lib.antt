@@ -1,3 +1,2 @@
 pub mod Accepts
-pub mod Branches
 pub mod Hashes

@@ -3,23 +3,16 @@ use Rattle.std.specs.Prelude.{ℕ, ◌-◌, Bool, ◌&&◌, not, List, [], ◌�
 use Rattle.trace.specs.File.{row_limit}
 use Rattle.laws.specs.First.{any}
 use Rattle.laws.specs.Choose.{choose}
+use Rattle.laws.specs.Options.{is_some_and}
 use Rattle.forms.specs.Kinds.{server_in, crypt_of}
-use Rattle.forms.specs.Forms.{sealed_of}
 use Rattle.closure.specs.Closure.{row_marked, mark_row, zeros}
 use Rattle.earlier.specs.declared.boxes.Boxes.{Boxes}
-use Rattle.earlier.specs.Heard.{Heard}
 use Rattle.earlier.specs.Earlier.{heard_at, said_to, said_by}
 use Rattle.earlier.specs.Boxes.{latest_to, chain_from, some}
 use Rattle.earlier.specs.Kept.{seal_at}
 use Rattle.accepts.specs.declared.Session.{Session}
 use Rattle.accepts.specs.declared.Side.{Side}
 use Rattle.accepts.specs.Tests.{said_finished, told_finished}
-
--- a Finished of that side, said to this agent, whatever its hash
-abbrev pub told_here : List ℕ → Heard → Bool → ℕ → Bool
-told_here file h server to =
-    let f = sealed_of file h.row in
-    said_to h to && (f.is && choose server f.server (not f.server))
 
 abbrev pub mark_event : List ℕ → Boxes → Bool → (to j : ℕ) → List ℕ → List ℕ
 mark_event file boxes server to j marks =
@@ -40,7 +33,7 @@ agreed_in file boxes marks e by s i =
     let h = heard_at file i in
     let server = server_in by.role in
     said_by h by.from by.to && ltb 0 (seal_at boxes server i) &&
-    answered_in file marks e (not server) by.from (crypt_of file h.row).second && said_finished file h by s
+    is_some_and (crypt_of file h.row) (λ c. answered_in file marks e (not server) by.from c.body) && said_finished file h by s
 
 -- the two passes over the boxes
 unfoldable pub both_in : List ℕ → Boxes → ℕ → Side → Session → Bool

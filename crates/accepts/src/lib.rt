@@ -118,7 +118,6 @@ fn answered(file: &[u8], marks: &[u8; ROW_LIMIT], e: u16, role: Role, to: u16, h
 
 // Whether event i is the Finished of one side, and the other side's was told. It is read whole only
 // where its hash was told.
-#[tactic(auto, unfolding(forms::specs::Forms::sealed_of))]
 fn agreed_at(
     file: &[u8],
     boxes: &Boxes,

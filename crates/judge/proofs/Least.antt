@@ -8,7 +8,7 @@ use mathlib.Core.Path.{◌≡◌, refl, sym, ◌∙◌}
 use native.Mathlib.Omega.{arith}
 use native.Mathlib.Decide.{ℕ_discrete}
 use lib.Dec.{eqb}
-use Rattle.std.specs.Prelude.{Ok}
+use Rattle.std.specs.Prelude.{Option, Some, None, Ok}
 use Rattle.paper.specs.Message.{agent}
 use Rattle.paper.specs.Event.{event, trace}
 use Rattle.paper.specs.Rules.{Step, Fake, SpyKeys, ClientHello, ServerHello, Certificate, CertVerify, ClientFinished, ServerFinished, ClientAccepts, ServerAccepts, ClientResume, ServerResume, Oops}
@@ -18,17 +18,18 @@ use Rattle.trace.specs.Kinds.{row_at}
 use Rattle.trace.specs.Reading.{reading}
 use Rattle.trace.specs.Promises.{Promised}
 use Rattle.trace.specs.declared.Row.{Row}
-use Rattle.trace.specs.declared.Row.TheVariants.{Agent, Number, Nonce, Prf, PublicKey, PrivateKey, SessionKey, Hash, Crypt, Pair}
+use Rattle.trace.specs.declared.Row.TheVariants as row
 use Rattle.laws.proofs.First.{bool_cases}
-use Rattle.laws.proofs.Both.{both4, refuted}
+use Rattle.laws.proofs.Both.{and_false}
+use Rattle.laws.proofs.Options.{Finds, finds, finding}
 use Rattle.trace.proofs.Promised.{promises_read}
 use Rattle.closure.specs.Closure.{known_after}
 use Rattle.used.specs.Marking.{used_after}
 use Rattle.forms.specs.Kinds.{crypt_in, pair_in, session_in, crypt_of, pair_of, session_of}
+use Rattle.forms.specs.declared.leaves.Crypt.{Crypt}
 use Rattle.forms.specs.Forms.{three_of, four_of, hello_of, reply_of, signed_of, sealed_of, verified_of}
 use Rattle.earlier.specs.Heard.{Heard}
 use Rattle.earlier.specs.declared.Wanted.{Wanted}
-use Rattle.earlier.specs.declared.Wanted.TheVariants.{Under}
 use Rattle.earlier.specs.Earlier.{heard_at, past}
 use Rattle.rules.specs.Tests.{fake, spy_keys, client_hello, server_hello, certificate, cert_verify, oops}
 use Rattle.rules.proofs.Steps.{Rights, fake_sound, fake_complete, spy_keys_sound, spy_keys_complete, client_hello_sound, client_hello_complete, server_hello_sound, server_hello_complete, certificate_sound, certificate_complete, oops_sound, oops_complete}
@@ -83,37 +84,13 @@ rule_range (ServerResume i j k) = (omega arith, omega arith, λ e. omega arith)
 rule_range (Oops i) = (omega arith, omega arith, λ e. omega arith)
 
 -- a Crypt is no Pair and no session key
-not_pair : (R : Row) → (crypt_in R).is ≡ true → (pair_in R).is ≡ false
-not_pair (Pair x y) t = sym t
-not_pair (Agent x) t = refl
-not_pair (Number x) t = refl
-not_pair (Nonce x) t = refl
-not_pair (Prf x y z) t = refl
-not_pair (PublicKey x) t = refl
-not_pair (PrivateKey x) t = refl
-not_pair (SessionKey o x y z) t = refl
-not_pair (Hash x) t = refl
-not_pair (Crypt x y) t = refl
+crypt_apart : (R : Row) {c : Crypt} → Finds (crypt_in R) c → (pair_in R ≡ None) × (session_in R ≡ None)
+crypt_apart (row.Crypt x y) finds = (refl, refl)
+crypt_apart _ f = elim f [ ]
 
-not_session : (R : Row) → (crypt_in R).is ≡ true → (session_in R).is ≡ false
-not_session (SessionKey o x y z) t = sym t
-not_session (Agent x) t = refl
-not_session (Number x) t = refl
-not_session (Nonce x) t = refl
-not_session (Prf x y z) t = refl
-not_session (PublicKey x) t = refl
-not_session (PrivateKey x) t = refl
-not_session (Hash x) t = refl
-not_session (Crypt x y) t = refl
-not_session (Pair x y) t = refl
-
-no_pair : (file : List ℕ) (r : ℕ) → (crypt_of file r).is ≡ true → (pair_of file r).is ≡ false
-unfolding crypt_of pair_of
-no_pair file r c = not_pair (row_at file r) c
-
-no_session : (file : List ℕ) (r : ℕ) → (crypt_of file r).is ≡ true → (session_of file r).is ≡ false
-unfolding crypt_of session_of
-no_session file r c = not_session (row_at file r) c
+no_other : (file : List ℕ) (r : ℕ) {c : Crypt} → crypt_of file r ≡ Some c → (pair_of file r ≡ None) × (session_of file r ≡ None)
+unfolding crypt_of pair_of session_of
+no_other file r e = crypt_apart (row_at file r) (finding e)
 
 -- the tests in order, whatever the event is
 module _ (file used known : List ℕ) (find : Wanted → Bool) (both : Side → Session → Bool) (h : Heard) where
@@ -130,30 +107,23 @@ module _ (file used known : List ℕ) (find : Wanted → Bool) (both : Side → 
   unfolding lowest_rule lowest_noted in_order fake client_hello server_hello certificate cert_verify client_finished server_finished client_resume server_resume oops
   noted_in_order s = rw s refl
 
-  no_oops : (crypt_of file h.row).is ≡ true → oops file find h ≡ false
-  unfolding oops
-  no_oops c =
-      refuted (oops file find h)
-      (λ t. true≢false
-      (sym (both4 h.says (eqb h.to 0) (session_of file h.row).is (find (Under h.from h.row)) t).2 ∙
-      no_session file h.row c))
+  crypt_in_order : {c : Crypt} → h.says ≡ true → crypt_of file h.row ≡ Some c → lowest_rule file used known find both h ≡ in_order
+  unfolding lowest_rule lowest_said lowest_crypt in_order spy_keys client_accepts server_accepts client_hello server_hello oops hello_of reply_of three_of four_of
+  crypt_in_order s e =
+      let other = no_other file h.row e in
+      rw (e, other.0, other.1, s, and_false (eqb h.to 0)) refl
 
-  crypt_in_order : h.says ≡ true → (crypt_of file h.row).is ≡ true → lowest_rule file used known find both h ≡ in_order
-  unfolding lowest_rule lowest_said lowest_crypt in_order spy_keys client_accepts server_accepts client_hello server_hello hello_of reply_of three_of four_of
-  crypt_in_order s c = rw (no_oops c, s, c, no_pair file h.row c) refl
-
-  plain_in_order : h.says ≡ true → (crypt_of file h.row).is ≡ false → lowest_rule file used known find both h ≡ in_order
+  plain_in_order : h.says ≡ true → crypt_of file h.row ≡ None → lowest_rule file used known find both h ≡ in_order
   unfolding lowest_rule lowest_said lowest_plain in_order spy_keys client_accepts server_accepts certificate cert_verify client_finished server_finished client_resume server_resume signed_of verified_of sealed_of
-  plain_in_order s c = rw (s, c) refl
+  plain_in_order s e = rw (e, s) refl
 
   rule_in_order : lowest_rule file used known find both h ≡ in_order
-  rule_in_order = go (bool_cases h.says) (bool_cases (crypt_of file h.row).is)
+  rule_in_order = go (bool_cases h.says) (crypt_of file h.row) refl
     where
-      go : (h.says ≡ true) ⊎ (h.says ≡ false) → ((crypt_of file h.row).is ≡ true) ⊎ ((crypt_of file h.row).is ≡ false) →
-          lowest_rule file used known find both h ≡ in_order
-      go (inl s) (inl c) = crypt_in_order s c
-      go (inl s) (inr c) = plain_in_order s c
-      go (inr s) d = noted_in_order s
+      go : (h.says ≡ true) ⊎ (h.says ≡ false) → (c : Option Crypt) → crypt_of file h.row ≡ c → lowest_rule file used known find both h ≡ in_order
+      go (inl s) (Some c) e = crypt_in_order s e
+      go (inl s) None e = plain_in_order s e
+      go (inr s) c e = noted_in_order s
 
 module _ (file : List ℕ) (r : reading file ≡ Ok tt) (i : ℕ) (l : i < events_of file) where
   abbrev P : Promised file

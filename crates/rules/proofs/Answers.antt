@@ -12,10 +12,8 @@ use Rattle.trace.specs.File.{events_of}
 use Rattle.trace.specs.Events.{event_at}
 use Rattle.trace.specs.Meaning.{message, event_meant, beginning, bad}
 use Rattle.trace.specs.Promises.{Promised}
-use Rattle.laws.proofs.Both.{both, both3}
-use Rattle.forms.specs.Kinds.{crypt_of}
-use Rattle.forms.specs.Forms.{kept_of, verified_of}
-use Rattle.forms.proofs.Flags.{both5, both6}
+use Rattle.laws.proofs.Both.{both, both3, both4}
+use Rattle.laws.proofs.Options.{is_some_and_true}
 use Rattle.forms.proofs.Shaped.{shapes}
 use Rattle.earlier.specs.Heard.{Heard}
 use Rattle.earlier.specs.Earlier.{heard_at, past}
@@ -44,21 +42,22 @@ module _ (file : List ℕ) (P : Promised file) (e : ℕ) (le : e < events_of fil
       Exchange (bad file) (beginning file e) (event_meant file (event_at file e)) (event_meant file (event_at file (suc e)))
   unfolding key_exchange
   key_exchange_sound t =
-      let k = kept_of file note.row in
-      let c = crypt_of file said.row in
       let b = both _ _ t in
-      let d = both6 _ _ _ _ _ _ b.1 in
-      let y = both3 _ _ _ d.2 in
-      let g = (shapes file P).kept_sound note.row (here_row file P e le) d.0 in
-      let f = fresh_sound file P e le used known R k.secret g.1.secret.row d.1 in
-      let x = (shapes file P).crypt_sound said.row (here_row file P (suc e) next) d.3 in
-      let i = cert_sound file P e (not_later file P e le) note.from k.agent c.first d.5 x.first in
+      let (k, ek, tk) = is_some_and_true b.1 in
+      let d = both3 _ _ _ tk in
+      let y = both3 _ _ _ d.1 in
+      let (c, ec, tc) = is_some_and_true d.2 in
+      let s = both _ _ tc in
+      let g = (shapes file P).kept_sound note.row (here_row file P e le) ek in
+      let f = fresh_sound file P e le used known R k.secret g.1.secret.row d.0 in
+      let x = (shapes file P).crypt_sound said.row (here_row file P (suc e) next) ec in
+      let i = cert_sound file P e (not_later file P e le) note.from k.agent c.key s.1 x.key in
       exchange_same
       (notes_meant file (event_at file e) b.0 ∙
       notes_same refl (g.1.whole ∙ note_same refl (nonce_one (sym g.1.secret.meant ∙ f.1))))
       (says_meant file (event_at file (suc e)) y.0 ∙
       says_same (eqb-true _ _ y.1) (eqb-true _ _ y.2)
-      (x.whole ∙ crypt_same refl (ap (message file) (eqb-true _ _ d.4) ∙ f.1)))
+      (x.whole ∙ crypt_same refl (ap (message file) (eqb-true _ _ s.0) ∙ f.1)))
       (ClientKeyExch f.2 i.1)
 
   pub key_exchange_complete : Exchange (bad file) (beginning file e) (event_meant file (event_at file e)) (event_meant file (event_at file (suc e))) →
@@ -69,23 +68,21 @@ module _ (file : List ℕ) (P : Promised file) (e : ℕ) (le : e < events_of fil
       go : {E F : event.event} → event_meant file (event_at file e) ≡ E → event_meant file (event_at file (suc e)) ≡ F →
           Exchange (bad file) (beginning file e) E F → key_exchange file used (past file e) note said ≡ true
       go p q (ClientKeyExch {PMS = PMS} n i) =
-          let k = kept_of file note.row in
-          let c = crypt_of file said.row in
           let t = notes_told file (event_at file e) p in
           let y = says_told file (event_at file (suc e)) q in
-          let g = (shapes file P).kept_complete note.row (here_row file P e le) t.2 in
-          let x = (shapes file P).crypt_complete said.row (here_row file P (suc e) next) y.3 in
+          let (k, g) = (shapes file P).kept_complete note.row (here_row file P e le) t.2 in
+          let (c, x) = (shapes file P).crypt_complete said.row (here_row file P (suc e) next) y.3 in
           let f = fresh_complete file P e le used known R k.secret PMS g.secret n in
-          let u = cert_complete file P e (not_later file P e le) note.from k.agent c.first (rw (← t.1, ← g.agent) at i) x.first in
+          let u = cert_complete file P e (not_later file P e le) note.from k.agent c.key (rw (← t.1, ← g.agent) at i) x.key in
           rw (
             t.0,
-            g.flag,
+            g.found,
             f,
             y.0,
             eq-eqb said.from note.from (y.1 ∙ sym t.1),
             eq-eqb said.to k.agent (y.2 ∙ sym g.agent),
-            x.flag,
-            one_row file P c.second k.secret x.second g.secret,
+            x.found,
+            one_row file P c.body k.secret x.body g.secret,
             u,
           ) refl
 
@@ -96,16 +93,16 @@ module _ (file : List ℕ) (P : Promised file) (e : ℕ) (le : e < events_of fil
   pub cert_verify_sound : cert_verify file (past file e) h ≡ true → ByRule file P e le 7
   unfolding cert_verify
   cert_verify_sound t =
-      let m = verified_of file h.row in
       let o = not_later file P e le in
       let b = both _ _ t in
-      let c = both5 _ _ _ _ _ b.1 in
-      let g = (shapes file P).verified_sound h.row (here_row file P e le) c.0 in
-      let i = reply_with_sound file P e o h.from m.nb c.3 g.2.nb in
-      let j = secret_sound file P e o h.from h.to m.secret c.4 g.2.secret in
+      let (m, em, tm) = is_some_and_true b.1 in
+      let c = both4 _ _ _ _ tm in
+      let g = (shapes file P).verified_sound h.row (here_row file P e le) em in
+      let i = reply_with_sound file P e o h.from m.nb c.2 g.2.nb in
+      let j = secret_sound file P e o h.from h.to m.secret c.3 g.2.secret in
       event_same
       (says_meant file (event_at file e) b.0 ∙
-      says_same refl refl (g.2.whole ∙ verify_same (eqb-true _ _ c.1) (eqb-true _ _ c.2)))
+      says_same refl refl (g.2.whole ∙ verify_same (eqb-true _ _ c.0) (eqb-true _ _ c.1)))
       (CertVerify i.3 j)
 
   pub cert_verify_complete : ByRule file P e le 7 → cert_verify file (past file e) h ≡ true
@@ -114,10 +111,9 @@ module _ (file : List ℕ) (P : Promised file) (e : ℕ) (le : e < events_of fil
     where
       go : Passes file P e le 7 (cert_verify file (past file e) h)
       go _ q (CertVerify i j) =
-          let m = verified_of file h.row in
           let o = not_later file P e le in
           let t = says_told file (event_at file e) q in
-          let g = (shapes file P).verified_complete h.row (here_row file P e le) t.3 in
+          let (m, g) = (shapes file P).verified_complete h.row (here_row file P e le) t.3 in
           let x = reply_with_complete file P e o h.from m.nb (rw (← t.1) at i) g.nb in
           let y = secret_complete file P e o h.from h.to m.secret (rw (← t.1, ← t.2) at j) g.secret in
-          rw (t.0, g.flag, eq-eqb m.signer h.from (g.signer ∙ sym t.1), eq-eqb m.agent h.to (g.agent ∙ sym t.2), x, y) refl
+          rw (t.0, g.found, eq-eqb m.signer h.from (g.signer ∙ sym t.1), eq-eqb m.agent h.to (g.agent ∙ sym t.2), x, y) refl

@@ -15,11 +15,10 @@ use Rattle.trace.specs.Events.{event_at}
 use Rattle.trace.specs.Meaning.{message, event_meant, beginning, bad}
 use Rattle.trace.specs.Promises.{Promised}
 use Rattle.std.specs.Cmp.Derive.{both_true}
-use Rattle.laws.proofs.Both.{both, both3, both4, refuted}
+use Rattle.laws.proofs.Both.{both, both3, refuted}
+use Rattle.laws.proofs.Options.{is_some_and_true}
 use Rattle.closure.specs.Closure.{row_marked}
 use Rattle.closure.proofs.Marks.{Marked}
-use Rattle.forms.specs.Kinds.{public_of}
-use Rattle.forms.specs.Forms.{hello_of, reply_of, signed_of, derived_of}
 use Rattle.forms.specs.Shapes.{RowHolds}
 use Rattle.forms.proofs.Shaped.{shapes}
 use Rattle.earlier.specs.Heard.{Heard}
@@ -89,15 +88,16 @@ module _ (file : List ℕ) (P : Promised file) (e : ℕ) (le : e < events_of fil
     pub certificate_sound : certificate file h ≡ true → ByRule 5
     unfolding certificate
     certificate_sound t =
-        let m = signed_of file h.row in
         let b = both _ _ t in
-        let c = both4 _ _ _ _ b.1 in
-        let g = (shapes file P).signed_sound h.row here c.0 in
-        let p = (shapes file P).public_sound m.key g.1.key.row c.2 in
-        let o = key_one (sym g.1.key.meant ∙ p.whole) ∙ ap paper.pub_k (eqb-true _ _ c.3) in
+        let (m, em, tm) = is_some_and_true b.1 in
+        let c = both _ _ tm in
+        let (agent, ea, ta) = is_some_and_true c.1 in
+        let g = (shapes file P).signed_sound h.row here em in
+        let p = (shapes file P).public_sound m.key g.1.key.row ea in
+        let o = key_one (sym g.1.key.meant ∙ p.whole) ∙ ap paper.pub_k (eqb-true _ _ ta) in
         event_same
         (says_meant file (event_at file e) b.0 ∙
-        says_same refl refl (g.1.whole ∙ cert_same (eqb-true _ _ c.1) o))
+        says_same refl refl (g.1.whole ∙ cert_same (eqb-true _ _ c.0) o))
         Certificate
 
     pub certificate_complete : ByRule 5 → certificate file h ≡ true
@@ -106,24 +106,22 @@ module _ (file : List ℕ) (P : Promised file) (e : ℕ) (le : e < events_of fil
       where
         go : Passes 5 (certificate file h)
         go _ q Certificate =
-            let m = signed_of file h.row in
-            let k = public_of file m.key in
             let t = says_told file (event_at file e) q in
-            let g = (shapes file P).signed_complete h.row here t.3 in
+            let (m, g) = (shapes file P).signed_complete h.row here t.3 in
             let p = (shapes file P).public_complete m.key g.key.row g.key.meant in
-            rw (t.0, g.flag, eq-eqb m.agent h.from (g.agent ∙ sym t.1), p.flag, eq-eqb k.first h.from (p.agent ∙ sym t.1)) refl
+            rw (t.0, g.found, eq-eqb m.agent h.from (g.agent ∙ sym t.1), p.found, eq-eqb _ h.from (sym t.1)) refl
 
     pub client_hello_sound : client_hello file used h ≡ true → ByRule 3
     unfolding client_hello
     client_hello_sound t =
-        let m = hello_of file h.row in
         let b = both _ _ t in
-        let c = both3 _ _ _ b.1 in
-        let g = (shapes file P).hello_sound h.row here c.0 in
-        let f = fresh_sound m.na g.3.na.row c.2 in
+        let (m, em, tm) = is_some_and_true b.1 in
+        let c = both _ _ tm in
+        let g = (shapes file P).hello_sound h.row here em in
+        let f = fresh_sound m.na g.3.na.row c.1 in
         event_same
         (says_meant file (event_at file e) b.0 ∙
-        says_same refl refl (g.3.whole ∙ hello_same (eqb-true _ _ c.1) (nonce_one (sym g.3.na.meant ∙ f.1)) refl refl))
+        says_same refl refl (g.3.whole ∙ hello_same (eqb-true _ _ c.0) (nonce_one (sym g.3.na.meant ∙ f.1)) refl refl))
         (ClientHello f.2)
 
     pub client_hello_complete : ByRule 3 → client_hello file used h ≡ true
@@ -132,24 +130,23 @@ module _ (file : List ℕ) (P : Promised file) (e : ℕ) (le : e < events_of fil
       where
         go : Passes 3 (client_hello file used h)
         go _ q (ClientHello {Na = Na} u) =
-            let m = hello_of file h.row in
             let t = says_told file (event_at file e) q in
-            let g = (shapes file P).hello_complete h.row here t.3 in
-            rw (t.0, g.flag, eq-eqb m.agent h.from (g.agent ∙ sym t.1), fresh_complete m.na Na g.na u) refl
+            let (m, g) = (shapes file P).hello_complete h.row here t.3 in
+            rw (t.0, g.found, eq-eqb m.agent h.from (g.agent ∙ sym t.1), fresh_complete m.na Na g.na u) refl
 
     pub spy_keys_sound : spy_keys file known h ≡ true → ByRule 2
     unfolding spy_keys
     spy_keys_sound t =
-        let d = derived_of file h.row in
         let b = both _ _ t in
         let n = both _ _ b.0 in
-        let c = both4 _ _ _ _ b.1 in
-        let g = (shapes file P).derived_sound h.row here c.0 in
+        let (d, ed, td) = is_some_and_true b.1 in
+        let c = both3 _ _ _ td in
+        let g = (shapes file P).derived_sound h.row here ed in
         event_same
         (notes_meant file (event_at file e) n.0 ∙ notes_same (eqb-true _ _ n.1) g.4.whole)
-        (SpyKeys (rw g.4.m.meant at ((R.known_right d.m g.4.m.row).0 c.1))
-        (rw g.4.na.meant at ((R.known_right d.na g.4.na.row).0 c.2))
-        (rw g.4.nb.meant at ((R.known_right d.nb g.4.nb.row).0 c.3)))
+        (SpyKeys (rw g.4.m.meant at ((R.known_right d.m g.4.m.row).0 c.0))
+        (rw g.4.na.meant at ((R.known_right d.na g.4.na.row).0 c.1))
+        (rw g.4.nb.meant at ((R.known_right d.nb g.4.nb.row).0 c.2)))
 
     pub spy_keys_complete : ByRule 2 → spy_keys file known h ≡ true
     unfolding spy_keys
@@ -157,20 +154,20 @@ module _ (file : List ℕ) (P : Promised file) (e : ℕ) (le : e < events_of fil
       where
         go : Passes 2 (spy_keys file known h)
         go _ q (SpyKeys x y z) =
-            let d = derived_of file h.row in
             let t = notes_told file (event_at file e) q in
-            let g = (shapes file P).derived_complete h.row here t.2 in
+            let (d, g) = (shapes file P).derived_complete h.row here t.2 in
             let i = (R.known_right d.m g.m.row).1 (rw g.m.meant x) in
             let j = (R.known_right d.na g.na.row).1 (rw g.na.meant y) in
             let k = (R.known_right d.nb g.nb.row).1 (rw g.nb.meant z) in
-            rw (t.0, eq-eqb h.from 0 t.1, g.flag, i, j, k) refl
+            rw (t.0, eq-eqb h.from 0 t.1, g.found, i, j, k) refl
 
     pub oops_sound : oops file (past file e) h ≡ true → ByRule 14
     unfolding oops
     oops_sound t =
-        let b = both4 _ _ _ _ t in
-        let g = (shapes file P).session_sound h.row here b.2 in
-        let u = under_sound file P e (not_later file P e le) h.from h.row b.3 (record { row = here; meant = g.whole }) in
+        let b = both3 _ _ _ t in
+        let (key, ek, tk) = is_some_and_true b.2 in
+        let g = (shapes file P).session_sound h.row here ek in
+        let u = under_sound file P e (not_later file P e le) h.from h.row tk (record { row = here; meant = g.whole }) in
         event_same (says_meant file (event_at file e) b.0 ∙ says_same refl (eqb-true _ _ b.1) g.whole) (Oops u.2)
 
     pub oops_complete : ByRule 14 → oops file (past file e) h ≡ true
@@ -180,19 +177,19 @@ module _ (file : List ℕ) (P : Promised file) (e : ℕ) (le : e < events_of fil
         go : Passes 14 (oops file (past file e) h)
         go _ q (Oops i) =
             let t = says_told file (event_at file e) q in
-            let g = (shapes file P).session_complete h.row here t.3 in
+            let (key, g) = (shapes file P).session_complete h.row here t.3 in
             let u = under_complete file P e (not_later file P e le) h.from h.row (rw (← t.1) at i) (record { row = here; meant = t.3 }) in
-            rw (t.0, eq-eqb h.to 0 t.2, g.flag, u) refl
+            rw (t.0, eq-eqb h.to 0 t.2, g.found, u) refl
 
     pub server_hello_sound : server_hello file used (past file e) h ≡ true → ByRule 4
     unfolding server_hello
     server_hello_sound t =
-        let m = reply_of file h.row in
         let b = both _ _ t in
-        let c = both3 _ _ _ b.1 in
-        let g = (shapes file P).reply_sound h.row here c.0 in
-        let f = fresh_sound m.nb g.3.nb.row c.1 in
-        let u = hello_for_sound file P e (not_later file P e le) h.from h.to m.sid c.2 g.3.sid in
+        let (m, em, tm) = is_some_and_true b.1 in
+        let c = both _ _ tm in
+        let g = (shapes file P).reply_sound h.row here em in
+        let f = fresh_sound m.nb g.3.nb.row c.0 in
+        let u = hello_for_sound file P e (not_later file P e le) h.from h.to m.sid c.1 g.3.sid in
         event_same
         (says_meant file (event_at file e) b.0 ∙
         says_same refl refl (g.3.whole ∙ reply_same (nonce_one (sym g.3.nb.meant ∙ f.1))))
@@ -204,8 +201,7 @@ module _ (file : List ℕ) (P : Promised file) (e : ℕ) (le : e < events_of fil
       where
         go : Passes 4 (server_hello file used (past file e) h)
         go _ q (ServerHello {Nb = Nb} n i) =
-            let m = reply_of file h.row in
             let t = says_told file (event_at file e) q in
-            let g = (shapes file P).reply_complete h.row here t.3 in
+            let (m, g) = (shapes file P).reply_complete h.row here t.3 in
             let u = hello_for_complete file P e (not_later file P e le) h.from h.to m.sid (rw (← t.1, ← t.2) at i) g.sid in
-            rw (t.0, g.flag, fresh_complete m.nb Nb g.nb n, u) refl
+            rw (t.0, g.found, fresh_complete m.nb Nb g.nb n, u) refl

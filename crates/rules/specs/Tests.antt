@@ -1,6 +1,7 @@
 -- The rules of one message over rows, as the code tests them: document 01, "The fourteen steps", 1 to 7 and 14. `used` and `known` are
 -- the marks of the rows that are used and analysed before event e.
 use Rattle.std.specs.Prelude.{ℕ, suc, Bool, ◌&&◌, not, List, eqb}
+use Rattle.laws.specs.Options.{is_some_and}
 use Rattle.trace.specs.File.{row_limit}
 use Rattle.closure.specs.Closure.{row_marked, zeros}
 use Rattle.spy.specs.Made.{made, write_marks}
@@ -24,38 +25,32 @@ fake file known h = h.says && eqb h.from 0 && can_make file known h.row
 
 unfoldable pub spy_keys : List ℕ → (known : List ℕ) → Heard → Bool
 spy_keys file known h =
-    let d = derived_of file h.row in
-    noted_by h 0 && (d.is && row_marked known d.m && row_marked known d.na && row_marked known d.nb)
+    noted_by h 0 &&
+    is_some_and (derived_of file h.row) (λ d. row_marked known d.m && row_marked known d.na && row_marked known d.nb)
 
 unfoldable pub client_hello : List ℕ → (used : List ℕ) → Heard → Bool
-client_hello file used h =
-    let m = hello_of file h.row in
-    h.says && (m.is && eqb m.agent h.from && fresh file used m.na)
+client_hello file used h = h.says && is_some_and (hello_of file h.row) (λ m. eqb m.agent h.from && fresh file used m.na)
 
 unfoldable pub server_hello : List ℕ → (used : List ℕ) → (Wanted → Bool) → Heard → Bool
 server_hello file used find h =
-    let m = reply_of file h.row in
-    h.says && (m.is && fresh file used m.nb && find (HelloFor h.from h.to m.sid))
+    h.says && is_some_and (reply_of file h.row) (λ m. fresh file used m.nb && find (HelloFor h.from h.to m.sid))
 
 unfoldable pub certificate : List ℕ → Heard → Bool
 certificate file h =
-    let m = signed_of file h.row in
-    let k = public_of file m.key in
-    h.says && (m.is && eqb m.agent h.from && k.is && eqb k.first h.from)
+    h.says &&
+    is_some_and (signed_of file h.row) (λ m. eqb m.agent h.from && is_some_and (public_of file m.key) (λ agent. eqb agent h.from))
 
 -- rule 6: this event and the next
 unfoldable pub key_exchange : List ℕ → (used : List ℕ) → (Wanted → Bool) → (note said : Heard) → Bool
 key_exchange file used find note said =
-    let k = kept_of file note.row in
-    let c = crypt_of file said.row in
-    not note.says && (k.is && fresh file used k.secret && said_by said note.from k.agent && c.is && eqb c.second k.secret &&
-    find (Cert note.from k.agent c.first))
+    not note.says && is_some_and (kept_of file note.row) (λ k.
+    fresh file used k.secret && said_by said note.from k.agent && is_some_and (crypt_of file said.row) (λ c.
+    eqb c.body k.secret && find (Cert note.from k.agent c.key)))
 
 unfoldable pub cert_verify : List ℕ → (Wanted → Bool) → Heard → Bool
 cert_verify file find h =
-    let m = verified_of file h.row in
-    h.says && (m.is && eqb m.signer h.from && eqb m.agent h.to && find (ReplyWith h.from m.nb) &&
-    find (Secret h.from h.to m.secret))
+    h.says && is_some_and (verified_of file h.row) (λ m.
+    eqb m.signer h.from && eqb m.agent h.to && find (ReplyWith h.from m.nb) && find (Secret h.from h.to m.secret))
 
 unfoldable pub oops : List ℕ → (Wanted → Bool) → Heard → Bool
-oops file find h = h.says && eqb h.to 0 && (session_of file h.row).is && find (Under h.from h.row)
+oops file find h = h.says && eqb h.to 0 && is_some_and (session_of file h.row) (λ key. find (Under h.from h.row))

@@ -4,8 +4,7 @@ use Prim.Native.Nat.{ℕ, suc, ◌<◌}
 use mathlib.Core.Bool.{Bool, true, false}
 use mathlib.Core.List.{List}
 use mathlib.Core.Path.{◌≡◌, refl, sym, ◌∙◌, ap, subst}
-use Rattle.std.specs.Prelude.{Option, Some, None}
-use Rattle.std.specs.Bool.{then_some}
+use Rattle.std.specs.Prelude.{Option}
 use Rattle.laws.specs.Choose.{choose}
 use Rattle.trace.specs.declared.Event.{Event}
 use Rattle.trace.specs.File.{row_limit, event_limit}
@@ -29,15 +28,6 @@ use Rattle.rules.proofs.Growing.{see_kept, can_more}
 use Rattle.walk.specs.declared.State.{State}
 use Rattle.walk.specs.Lowest.{or_none, lowest_said, lowest_noted, lowest_rule, rule_of, exchange_of}
 use Rattle.walk.specs.Pace.{Before}
-
--- what an Option of a test tells of it
-pub some_true : {A : Type 0} {y : A} (x : A) (b : Bool) → then_some b x ≡ Some y → b ≡ true
-some_true x true e = refl
-some_true x false e = cc
-
-pub none_false : {A : Type 0} (x : A) (b : Bool) → then_some b x ≡ None → b ≡ false
-none_false x true e = cc
-none_false x false e = refl
 
 pub before_first : (file : List ℕ) {k : Known} {bs : Boxes} → k ≡ known_after file 0 → bs ≡ none_kept →
     Before file 0 (record { used = zeros row_limit; known = k; boxes = bs; made = zeros row_limit })

@@ -1,6 +1,6 @@
 -- The lowest rule that fits an event, as the code finds it; 0 for none. `find` looks for an earlier event, and `both` for two Finished. The tests are those of document 01, "The fourteen steps", parted
 -- by what the event is: a note, or a Says of a Crypt, or of another message.
-use Rattle.std.specs.Prelude.{ℕ, suc, Bool, List, Option, ltb}
+use Rattle.std.specs.Prelude.{ℕ, suc, Bool, List, Option, Some, None, ltb}
 use Rattle.std.specs.Bool.{then_some}
 use Rattle.laws.specs.Choose.{choose}
 use Rattle.closure.specs.Closure.{known_after}
@@ -32,7 +32,7 @@ lowest_plain file used find h = choose (client_hello file used h) 3 (choose (ser
 
 unfoldable pub lowest_said : List ℕ → (used known : List ℕ) → (Wanted → Bool) → Heard → ℕ
 lowest_said file used known find h =
-    choose (fake file known h) 1 (choose (crypt_of file h.row).is (lowest_crypt file find h) (lowest_plain file used find h))
+    choose (fake file known h) 1 (elim (crypt_of file h.row) [ Some _ ↦ lowest_crypt file find h | None ↦ lowest_plain file used find h ])
 
 unfoldable pub lowest_rule : List ℕ → (used known : List ℕ) → (Wanted → Bool) → (Side → Session → Bool) → Heard → ℕ
 lowest_rule file used known find both h = choose h.says (lowest_said file used known find h) (lowest_noted file known find both h)

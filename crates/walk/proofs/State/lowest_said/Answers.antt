@@ -1,9 +1,8 @@
 -- `walk::State::lowest_said` meets its contract: rule 1 comes first, and then what the message is.
 -- Assumes nothing.
 use Rattle.std.proofs.Common.{refl, sym, ◌∙◌}
-use Rattle.forms.specs.Kinds.{crypt_of}
 use Rattle.walk.specs.Lowest.{lowest_said}
-use Rattle.walk.proofs.States.{before_tried, some_true, none_false}
+use Rattle.walk.proofs.States.{before_tried}
 use Rattle.walk.proofs.State.lowest_said.Goals as goal
 
 pub returns-then-fake : goal.returns-then-fake
@@ -20,8 +19,8 @@ unfolding lowest_said
 returns-in-Some c =
     let a = c.args in
     let q = before_tried a.file.now a.e a.self.now c.requires.before _ c.fake.ensures in
-    let t = some_true _ (crypt_of a.file.now a.row.0).is (sym c.crypt_of.ensures ∙ c.in-Some.is) in record {
-      value = rw (sym q.0 ∙ c.if-fake.false, c.requires.row, t) c.lowest_crypt.ensures;
+    record {
+      value = rw (sym q.0 ∙ c.if-fake.false, c.requires.row, sym c.crypt_of.ensures ∙ c.in-Some.is) c.lowest_crypt.ensures;
       before = q.1;
     }
 
@@ -30,7 +29,7 @@ unfolding lowest_said
 returns-in-None c =
     let a = c.args in
     let q = before_tried a.file.now a.e a.self.now c.requires.before _ c.fake.ensures in
-    let t = none_false _ (crypt_of a.file.now a.row.0).is (sym c.crypt_of.ensures ∙ c.in-None.is) in record {
-      value = rw (sym q.0 ∙ c.if-fake.false, c.requires.row, t) c.lowest_plain.ensures;
+    record {
+      value = rw (sym q.0 ∙ c.if-fake.false, c.requires.row, sym c.crypt_of.ensures ∙ c.in-None.is) c.lowest_plain.ensures;
       before = q.1;
     }
