@@ -26,7 +26,6 @@ use Rattle.laws.proofs.Options.{is_some_and_true}
 use Rattle.forms.specs.Kinds.{server_in}
 use Rattle.forms.specs.Forms.{sealed_of}
 use Rattle.forms.specs.Shapes.{RowHolds}
-use Rattle.forms.proofs.Flags.{both7}
 use Rattle.forms.proofs.Keyed.{role_named, role_named_lem, role_client, role_server}
 use Rattle.forms.proofs.Shaped.{shapes}
 use Rattle.earlier.specs.Earlier.{heard_at, said_to, said_by, past}
@@ -126,17 +125,18 @@ module _ (file : List ℕ) (P : Promised file) (e : ℕ) (o : e ≤ events_of fi
       let (j, lj, tj) = any_inv (told f.hash) e (of_found (λ f. any (told f.hash) e) ef y.1) in
       let w = both (said_to (heard_at file j) by.from) _ tj in
       let (k, ek, tk) = is_some_and_true w.1 in
-      let v = both7 _ _ _ _ _ _ _ tf in
+      let z = both4 _ _ _ _ tf in
+      let v = both4 _ _ _ _ z.0 in
       let c = both _ _ tk in
       let g = (shapes file P).sealed_sound (heard_at file i).row (row_in file P e o i li) ef in
       let d = (shapes file P).sealed_sound (heard_at file j).row (row_in file P e o j lj) ek in
       let q =
       agreed_same (number_one (one_message file f.sid s.sid g.6.sid v.0 hs))
-      (nonce_one (one_message file f.m s.m g.6.m v.3 hm)) (nonce_one (one_message file f.na s.na g.6.na v.4 hna))
-      (eqb-true f.a s.a v.1) (nonce_one (one_message file f.nb s.nb g.6.nb v.5 hnb)) (eqb-true f.b s.b v.2)
+      (nonce_one (one_message file f.m s.m g.6.m v.3 hm)) (nonce_one (one_message file f.na s.na g.6.na z.1 hna))
+      (eqb-true f.a s.a v.1) (nonce_one (one_message file f.nb s.nb g.6.nb z.2 hnb)) (eqb-true f.b s.b v.2)
       in
       let first =
-      by_sound file P e o i by.from by.to li u.0 (g.6.whole ∙ sealed_same (named (server_in by.role) f.role v.6) q)
+      by_sound file P e o i by.from by.to li u.0 (g.6.whole ∙ sealed_same (named (server_in by.role) f.role z.3) q)
       in
       let second =
       to_sound file P e o j by.from lj w.0

@@ -20,6 +20,7 @@ use Rattle.trace.specs.declared.Role.TheVariants.{Client, Server}
 use Rattle.laws.proofs.Both.{both, both3}
 use Rattle.laws.proofs.Options.{and_then_some, is_some_and_true, then_some_true}
 use Rattle.forms.specs.Kinds.{server_in, prf_of}
+use Rattle.forms.specs.Forms.{sealed_of}
 use Rattle.forms.specs.Shapes.{RowHolds, IsSealed}
 use Rattle.forms.specs.declared.Sealed.{Sealed}
 use Rattle.forms.proofs.Shaped.{shapes}
@@ -40,6 +41,21 @@ as_server : (o : Role) → server_in o ≡ true → o ≡ Server
 as_server Server t = refl
 as_server Client t = absurd (true≢false (sym t))
 
+-- who says the Finished of a role to whom
+abbrev said : Role → (A B : paper.agent) → paper.msg → event.event
+said Client A B X = event.Says A B X
+said Server A B X = event.Says B A X
+
+client_named : (o : Role) → role_meant o ≡ paper.ClientRole → o ≡ Client
+client_named o q = as_client o (role_client o q)
+
+server_named : (o : Role) → role_meant o ≡ paper.ServerRole → o ≡ Server
+server_named o q = as_server o (role_server o q)
+
+finished_same : {R R' : paper.role} {SID : ℕ} {M M' Na : paper.nonce} {Pa : ℕ} {A : paper.agent} {Nb : paper.nonce} {Pb : ℕ} {B : paper.agent} →
+    R ≡ R' → M ≡ M' → Finished R SID M Na Pa A Nb Pb B ≡ Finished R' SID M' Na Pa A Nb Pb B
+finished_same r q = rw (r, q) refl
+
 client_greeted : (find : Wanted → Bool) (m : Sealed) → m.role ≡ Client →
     greeted find m ≡ (find (HelloBy m.a m.b m.na m.sid m.pa) && find (ReplyTo m.a m.nb m.sid m.pb))
 client_greeted find m r = rw r refl
@@ -48,219 +64,182 @@ server_greeted : (find : Wanted → Bool) (m : Sealed) → m.role ≡ Server →
     greeted find m ≡ (find (HelloTo m.b m.a m.na m.sid m.pa) && find (ReplyBy m.b m.a m.nb m.sid m.pb))
 server_greeted find m r = rw r refl
 
-finished_same : {R : paper.role} {SID : ℕ} {M M' Na : paper.nonce} {Pa : ℕ} {A : paper.agent} {Nb : paper.nonce} {Pb : ℕ} {B : paper.agent} →
-    M ≡ M' → Finished R SID M Na Pa A Nb Pb B ≡ Finished R SID M' Na Pa A Nb Pb B
-finished_same q = rw q refl
-
--- the secret of a Finished is the one that its M is made of
-module _ (file : List ℕ) (P : Promised file) where
-  secret_sound_of : {r : ℕ} {m : Sealed} {x : ℕ} {R : paper.role} {SID : ℕ} {M Na : paper.nonce} {Pa : ℕ} {A : paper.agent} {Nb : paper.nonce} {Pb : ℕ} {B : paper.agent} →
-      IsSealed file r m R SID M Na Pa A Nb Pb B → secret_of file m ≡ Some x →
-      (PMS : paper.nonce) × RowHolds file x (paper.Nonce PMS) × (M ≡ paper.PRF PMS Na Nb)
-  secret_sound_of {m = m} g e =
-      let (p, ep, hp) = and_then_some {o = prf_of file m.m} e in
-      let (t, secret) = then_some_true {b = eqb p.na m.na && eqb p.nb m.nb} hp in
-      let same = both _ _ t in
-      let f = (shapes file P).prf_sound m.m g.m.row ep in
-      let na = nonce_one (one_message file p.na m.na f.na same.0 g.na) in
-      let nb = nonce_one (one_message file p.nb m.nb f.nb same.1 g.nb) in
-      (_, rw secret at f.secret, rw (na, nb, secret) at (nonce_one (sym g.m.meant ∙ f.whole)))
-
-  secret_told : {r : ℕ} {m : Sealed} {R : paper.role} {SID : ℕ} {PMS Na : paper.nonce} {Pa : ℕ} {A : paper.agent} {Nb : paper.nonce} {Pb : ℕ} {B : paper.agent} →
-      IsSealed file r m R SID (paper.PRF PMS Na Nb) Na Pa A Nb Pb B →
-      (x : ℕ) × (secret_of file m ≡ Some x) × RowHolds file x (paper.Nonce PMS)
-  secret_told {m = m} g =
-      let (p, f) = (shapes file P).prf_complete m.m g.m.row g.m.meant in
-      (p.secret, rw (f.found, one_row file P p.na m.na f.na g.na, one_row file P p.nb m.nb f.nb g.nb) refl, f.secret)
-
--- a Finished of a role is said by its side, which was greeted: that in the trace so far
 module _ (file : List ℕ) (P : Promised file) (e : ℕ) (le : e < events_of file) where
-  -- the event, in the words of the Finished
-  finished_here : {from to : ℕ} {R R' : paper.role} {SID : ℕ} {M Na : paper.nonce} {Pa : ℕ} {A : paper.agent} {Nb : paper.nonce} {Pb : ℕ} {B : paper.agent} →
-      (heard_at file e).says ≡ true → eqb from (heard_at file e).from ≡ true → eqb to (heard_at file e).to ≡ true → R ≡ R' →
-      message file (heard_at file e).row ≡ Finished R SID M Na Pa A Nb Pb B →
-      event_meant file (event_at file e) ≡ event.Says from to (Finished R' SID M Na Pa A Nb Pb B)
-  finished_here {from} {to} says a b r q =
-      rw (says_meant file (event_at file e) says, eqb-true from _ a, eqb-true to _ b, q, r) refl
-
-  client_said : {m : Sealed} → own_finished file (heard_at file e) Client ≡ Some m → greeted (past file e) m ≡ true →
-      (SID : ℕ) × (M : paper.nonce) × (Na : paper.nonce) × (Pa : ℕ) × (Nb : paper.nonce) × (Pb : ℕ) ×
-      IsSealed file (heard_at file e).row m (role_meant m.role) SID M Na Pa m.a Nb Pb m.b ×
-      (event_meant file (event_at file e) ≡ event.Says m.a m.b (Finished paper.ClientRole SID M Na Pa m.a Nb Pb m.b)) ×
-      In (event.Says m.a m.b (CH m.a Na SID Pa)) (beginning file e) ×
-      ((B' : paper.agent) × In (event.Says B' m.a (SH Nb SID Pb)) (beginning file e))
-  client_said {m = m} own t =
-      let h = heard_at file e in
-      let (says, sealed, o) = own_is file h Client own in
+  own_said : (role : Role) {m : Sealed} → own_finished file (heard_at file e) role ≡ Some m →
+      (sealed_of file (heard_at file e).row ≡ Some m) × (m.role ≡ role) ×
+      (event_meant file (event_at file e) ≡ said role m.a m.b (message file (heard_at file e).row))
+  own_said Client {m} own =
+      let (says, sealed, o) = own_is file (heard_at file e) Client own in
       let (role, a, b) = both3 _ _ _ o in
-      let (SID, M, Na, Pa, Nb, Pb, g) = (shapes file P).sealed_sound h.row (here_row file P e le) sealed in
-      let r = as_client m.role role in
-      let w = both _ _ (sym (client_greeted (past file e) m r) ∙ t) in
-      let n = not_later file P e le in (
-        SID,
-        M,
-        Na,
-        Pa,
-        Nb,
-        Pb,
-        g,
-        finished_here says a b (ap role_meant r) g.whole,
-        hello_by_sound file P e n m.a m.b m.na m.sid m.pa w.0 g.na g.sid g.pa,
-        reply_to_sound file P e n m.a m.nb m.sid m.pb w.1 g.nb g.sid g.pb,
-      )
-
-  server_said : {m : Sealed} → own_finished file (heard_at file e) Server ≡ Some m → greeted (past file e) m ≡ true →
-      (SID : ℕ) × (M : paper.nonce) × (Na : paper.nonce) × (Pa : ℕ) × (Nb : paper.nonce) × (Pb : ℕ) ×
-      IsSealed file (heard_at file e).row m (role_meant m.role) SID M Na Pa m.a Nb Pb m.b ×
-      (event_meant file (event_at file e) ≡ event.Says m.b m.a (Finished paper.ServerRole SID M Na Pa m.a Nb Pb m.b)) ×
-      ((A' : paper.agent) × In (event.Says A' m.b (CH m.a Na SID Pa)) (beginning file e)) ×
-      In (event.Says m.b m.a (SH Nb SID Pb)) (beginning file e)
-  server_said {m = m} own t =
-      let h = heard_at file e in
-      let (says, sealed, o) = own_is file h Server own in
+      (sealed, as_client m.role role, rw (says_meant file (event_at file e) says, eqb-true m.a _ a, eqb-true m.b _ b) refl)
+  own_said Server {m} own =
+      let (says, sealed, o) = own_is file (heard_at file e) Server own in
       let (role, b, a) = both3 _ _ _ o in
-      let (SID, M, Na, Pa, Nb, Pb, g) = (shapes file P).sealed_sound h.row (here_row file P e le) sealed in
-      let r = as_server m.role role in
-      let w = both _ _ (sym (server_greeted (past file e) m r) ∙ t) in
-      let n = not_later file P e le in (
-        SID,
-        M,
-        Na,
-        Pa,
-        Nb,
-        Pb,
-        g,
-        finished_here says b a (ap role_meant r) g.whole,
-        hello_to_sound file P e n m.b m.a m.na m.sid m.pa w.0 g.na g.sid g.pa,
-        reply_by_sound file P e n m.b m.a m.nb m.sid m.pb w.1 g.nb g.sid g.pb,
-      )
+      (sealed, as_server m.role role, rw (says_meant file (event_at file e) says, eqb-true m.a _ a, eqb-true m.b _ b) refl)
 
-  client_owns : {X : paper.msg} {m : Sealed} {SID : ℕ} {M Na : paper.nonce} {Pa : ℕ} {A : paper.agent} {Nb : paper.nonce} {Pb : ℕ} {B : paper.agent} →
-      event_meant file (event_at file e) ≡ event.Says A B X →
-      IsSealed file (heard_at file e).row m paper.ClientRole SID M Na Pa A Nb Pb B → own_finished file (heard_at file e) Client ≡ Some m
-  client_owns {m = m} q g =
-      let t = says_told file (event_at file e) q in
-      rw (t.0, g.found, role_client m.role g.role, eq-eqb m.a _ (g.a ∙ sym t.1), eq-eqb m.b _ (g.b ∙ sym t.2)) refl
+  -- of the Finished m that event e says
+  module _
+      {m : Sealed} {R : paper.role} {SID : ℕ} {M Na : paper.nonce} {Pa : ℕ} {A : paper.agent} {Nb : paper.nonce} {Pb : ℕ} {B : paper.agent}
+      (g : IsSealed file (heard_at file e).row m R SID M Na Pa A Nb Pb B)
+    where
+      owned : (role : Role) (X : paper.msg) → m.role ≡ role → event_meant file (event_at file e) ≡ said role A B X →
+          own_finished file (heard_at file e) role ≡ Some m
+      owned Client X r q =
+          let t = says_told file (event_at file e) q in
+          rw (t.0, g.found, ap (λ o. not (server_in o)) r, eq-eqb m.a _ (g.a ∙ sym t.1), eq-eqb m.b _ (g.b ∙ sym t.2)) refl
+      owned Server X r q =
+          let t = says_told file (event_at file e) q in
+          rw (t.0, g.found, ap server_in r, eq-eqb m.b _ (g.b ∙ sym t.1), eq-eqb m.a _ (g.a ∙ sym t.2)) refl
 
-  server_owns : {X : paper.msg} {m : Sealed} {SID : ℕ} {M Na : paper.nonce} {Pa : ℕ} {A : paper.agent} {Nb : paper.nonce} {Pb : ℕ} {B : paper.agent} →
-      event_meant file (event_at file e) ≡ event.Says B A X →
-      IsSealed file (heard_at file e).row m paper.ServerRole SID M Na Pa A Nb Pb B → own_finished file (heard_at file e) Server ≡ Some m
-  server_owns {m = m} q g =
-      let t = says_told file (event_at file e) q in
-      rw (t.0, g.found, role_server m.role g.role, eq-eqb m.b _ (g.b ∙ sym t.1), eq-eqb m.a _ (g.a ∙ sym t.2)) refl
+      client_told : m.role ≡ Client → greeted (past file e) m ≡ true →
+          In (event.Says m.a m.b (CH m.a Na SID Pa)) (beginning file e) ×
+          ((B' : paper.agent) × In (event.Says B' m.a (SH Nb SID Pb)) (beginning file e))
+      client_told r t =
+          let w = both _ _ (sym (client_greeted (past file e) m r) ∙ t) in (
+            hello_by_sound file P e (not_later file P e le) m.a m.b m.na m.sid m.pa w.0 g.na g.sid g.pa,
+            reply_to_sound file P e (not_later file P e le) m.a m.nb m.sid m.pb w.1 g.nb g.sid g.pb,
+          )
 
-  client_greets : {r : ℕ} {m : Sealed} {SID : ℕ} {M Na : paper.nonce} {Pa : ℕ} {A : paper.agent} {Nb : paper.nonce} {Pb : ℕ} {B B' : paper.agent} →
-      IsSealed file r m paper.ClientRole SID M Na Pa A Nb Pb B →
-      In (event.Says A B (CH A Na SID Pa)) (beginning file e) → In (event.Says B' A (SH Nb SID Pb)) (beginning file e) →
-      greeted (past file e) m ≡ true
-  client_greets {m = m} g i j =
-      let n = not_later file P e le in
-      let x = hello_by_complete file P e n m.a m.b m.na m.sid m.pa (rw (← g.a, ← g.b) at i) g.na g.sid g.pa in
-      let y = reply_to_complete file P e n m.a m.nb m.sid m.pb (rw (← g.a) at j) g.nb g.sid g.pb in
-      client_greeted (past file e) m (as_client m.role (role_client m.role g.role)) ∙ rw (x, y) refl
+      client_tells : {B' : paper.agent} → m.role ≡ Client → In (event.Says A B (CH A Na SID Pa)) (beginning file e) →
+          In (event.Says B' A (SH Nb SID Pb)) (beginning file e) → greeted (past file e) m ≡ true
+      client_tells r i j =
+          let x = hello_by_complete file P e (not_later file P e le) m.a m.b m.na m.sid m.pa (rw (← g.a, ← g.b) at i) g.na g.sid g.pa in
+          let y = reply_to_complete file P e (not_later file P e le) m.a m.nb m.sid m.pb (rw (← g.a) at j) g.nb g.sid g.pb in
+          client_greeted (past file e) m r ∙ rw (x, y) refl
 
-  server_greets : {r : ℕ} {m : Sealed} {SID : ℕ} {M Na : paper.nonce} {Pa : ℕ} {A A' : paper.agent} {Nb : paper.nonce} {Pb : ℕ} {B : paper.agent} →
-      IsSealed file r m paper.ServerRole SID M Na Pa A Nb Pb B →
-      In (event.Says A' B (CH A Na SID Pa)) (beginning file e) → In (event.Says B A (SH Nb SID Pb)) (beginning file e) →
-      greeted (past file e) m ≡ true
-  server_greets {m = m} g i j =
-      let n = not_later file P e le in
-      let x = hello_to_complete file P e n m.b m.a m.na m.sid m.pa (rw (← g.a, ← g.b) at i) g.na g.sid g.pa in
-      let y = reply_by_complete file P e n m.b m.a m.nb m.sid m.pb (rw (← g.a, ← g.b) at j) g.nb g.sid g.pb in
-      server_greeted (past file e) m (as_server m.role (role_server m.role g.role)) ∙ rw (x, y) refl
+      server_told : m.role ≡ Server → greeted (past file e) m ≡ true →
+          ((A' : paper.agent) × In (event.Says A' m.b (CH m.a Na SID Pa)) (beginning file e)) ×
+          In (event.Says m.b m.a (SH Nb SID Pb)) (beginning file e)
+      server_told r t =
+          let w = both _ _ (sym (server_greeted (past file e) m r) ∙ t) in (
+            hello_to_sound file P e (not_later file P e le) m.b m.a m.na m.sid m.pa w.0 g.na g.sid g.pa,
+            reply_by_sound file P e (not_later file P e le) m.b m.a m.nb m.sid m.pb w.1 g.nb g.sid g.pb,
+          )
+
+      server_tells : {A' : paper.agent} → m.role ≡ Server → In (event.Says A' B (CH A Na SID Pa)) (beginning file e) →
+          In (event.Says B A (SH Nb SID Pb)) (beginning file e) → greeted (past file e) m ≡ true
+      server_tells r i j =
+          let x = hello_to_complete file P e (not_later file P e le) m.b m.a m.na m.sid m.pa (rw (← g.a, ← g.b) at i) g.na g.sid g.pa in
+          let y = reply_by_complete file P e (not_later file P e le) m.b m.a m.nb m.sid m.pb (rw (← g.a, ← g.b) at j) g.nb g.sid g.pb in
+          server_greeted (past file e) m r ∙ rw (x, y) refl
+
+      session_noted : (who : ℕ) {C : paper.agent} → who ≡ C → In (event.Notes C (session_note SID A B M)) (beginning file e) →
+          past file e (Session who m.sid m.a m.b m.m) ≡ true
+      session_noted who w k =
+          session_complete file P e (not_later file P e le) who m.sid m.a m.b m.m (rw (← w, ← g.a, ← g.b) at k) g.sid g.m
+
+      -- the secret of a Finished is the one that its M is made of
+      secret_found : {secret : ℕ} → secret_of file m ≡ Some secret →
+          (PMS : paper.nonce) × RowHolds file secret (paper.Nonce PMS) × (M ≡ paper.PRF PMS Na Nb)
+      secret_found h =
+          let (p, ep, hp) = and_then_some {o = prf_of file m.m} h in
+          let (t, secret) = then_some_true {b = eqb p.na m.na && eqb p.nb m.nb} hp in
+          let same = both _ _ t in
+          let f = (shapes file P).prf_sound m.m g.m.row ep in
+          let na = nonce_one (one_message file p.na m.na f.na same.0 g.na) in
+          let nb = nonce_one (one_message file p.nb m.nb f.nb same.1 g.nb) in
+          (_, rw secret at f.secret, rw (na, nb, secret) at (nonce_one (sym g.m.meant ∙ f.whole)))
+
+      secret_told : {PMS : paper.nonce} → M ≡ paper.PRF PMS Na Nb →
+          (secret : ℕ) × (secret_of file m ≡ Some secret) × RowHolds file secret (paper.Nonce PMS)
+      secret_told q =
+          let (p, f) = (shapes file P).prf_complete m.m g.m.row (g.m.meant ∙ ap paper.Nonce q) in
+          (p.secret, rw (f.found, one_row file P p.na m.na f.na g.na, one_row file P p.nb m.nb f.nb g.nb) refl, f.secret)
+
+      secret_noted : {secret : ℕ} {PMS : paper.nonce} → RowHolds file secret (paper.Nonce PMS) →
+          In (event.Notes A (secret_note B PMS)) (beginning file e) → past file e (Secret m.a m.b secret) ≡ true
+      secret_noted {secret} x k = secret_complete file P e (not_later file P e le) m.a m.b secret (rw (← g.a, ← g.b) at k) x
+
+      secret_sent : {secret : ℕ} {PMS : paper.nonce} {A' : paper.agent} → RowHolds file secret (paper.Nonce PMS) →
+          In (event.Says A' B (paper.Crypt (paper.pub_k B) (carried A PMS))) (beginning file e) → past file e (Sent m.b secret) ≡ true
+      secret_sent {secret} x k = sent_complete file P e (not_later file P e le) m.b secret (rw (← g.b) at k) x
 
   pub client_resume_sound : client_resume file (past file e) (heard_at file e) ≡ true → Step (bad file) (beginning file e) (event_meant file (event_at file e)) 12
   unfolding client_resume
   client_resume_sound t =
-      let (m, own, hm) = is_some_and_true t in
-      let b = both _ _ hm in
-      let (_, _, _, _, _, _, g, event, hello, (_, reply)) = client_said own b.0 in
+      let (m, own, h) = is_some_and_true t in
+      let b = both _ _ h in
+      let (sealed, role, event) = own_said Client own in
+      let (_, _, _, _, _, _, g) = (shapes file P).sealed_sound _ (here_row file P e le) sealed in
+      let (hello, (_, reply)) = client_told g role b.0 in
       let note = session_sound file P e (not_later file P e le) m.a m.sid m.a m.b m.m b.1 g.sid g.m in
-      event_same event (ClientResume hello reply note)
+      event_same (event ∙ says_same refl refl (g.whole ∙ finished_same (ap role_meant role) refl)) (ClientResume hello reply note)
 
   pub client_resume_complete : Step (bad file) (beginning file e) (event_meant file (event_at file e)) 12 → client_resume file (past file e) (heard_at file e) ≡ true
   unfolding client_resume
   client_resume_complete s = go refl s
     where
-      noted : {m : Sealed} {SID : ℕ} {M Na : paper.nonce} {Pa : ℕ} {A : paper.agent} {Nb : paper.nonce} {Pb : ℕ} {B : paper.agent} →
-          IsSealed file (heard_at file e).row m paper.ClientRole SID M Na Pa A Nb Pb B →
-          In (event.Notes A (session_note SID A B M)) (beginning file e) → past file e (Session m.a m.sid m.a m.b m.m) ≡ true
-      noted {m = m} g k = session_complete file P e (not_later file P e le) m.a m.sid m.a m.b m.m (rw (← g.a, ← g.b) at k) g.sid g.m
-
       go : {E : event.event} → event_meant file (event_at file e) ≡ E → Step (bad file) (beginning file e) E 12 → client_resume file (past file e) (heard_at file e) ≡ true
       go q (ClientResume i j k) =
           let (m, g) = (shapes file P).sealed_complete _ (here_row file P e le) (says_told file (event_at file e) q).3 in
-          rw (client_owns q g, client_greets g i j, noted g k) refl
+          let r = client_named m.role g.role in
+          rw (owned g Client _ r q, client_tells g r i j, session_noted g m.a g.a k) refl
 
   pub server_resume_sound : server_resume file (past file e) (heard_at file e) ≡ true → Step (bad file) (beginning file e) (event_meant file (event_at file e)) 13
   unfolding server_resume
   server_resume_sound t =
-      let (m, own, hm) = is_some_and_true t in
-      let b = both _ _ hm in
-      let (_, _, _, _, _, _, g, event, (_, hello), reply) = server_said own b.0 in
+      let (m, own, h) = is_some_and_true t in
+      let b = both _ _ h in
+      let (sealed, role, event) = own_said Server own in
+      let (_, _, _, _, _, _, g) = (shapes file P).sealed_sound _ (here_row file P e le) sealed in
+      let ((_, hello), reply) = server_told g role b.0 in
       let note = session_sound file P e (not_later file P e le) m.b m.sid m.a m.b m.m b.1 g.sid g.m in
-      event_same event (ServerResume hello reply note)
+      event_same (event ∙ says_same refl refl (g.whole ∙ finished_same (ap role_meant role) refl)) (ServerResume hello reply note)
 
   pub server_resume_complete : Step (bad file) (beginning file e) (event_meant file (event_at file e)) 13 → server_resume file (past file e) (heard_at file e) ≡ true
   unfolding server_resume
   server_resume_complete s = go refl s
     where
-      noted : {m : Sealed} {SID : ℕ} {M Na : paper.nonce} {Pa : ℕ} {A : paper.agent} {Nb : paper.nonce} {Pb : ℕ} {B : paper.agent} →
-          IsSealed file (heard_at file e).row m paper.ServerRole SID M Na Pa A Nb Pb B →
-          In (event.Notes B (session_note SID A B M)) (beginning file e) → past file e (Session m.b m.sid m.a m.b m.m) ≡ true
-      noted {m = m} g k = session_complete file P e (not_later file P e le) m.b m.sid m.a m.b m.m (rw (← g.a, ← g.b) at k) g.sid g.m
-
       go : {E : event.event} → event_meant file (event_at file e) ≡ E → Step (bad file) (beginning file e) E 13 → server_resume file (past file e) (heard_at file e) ≡ true
       go q (ServerResume i j k) =
           let (m, g) = (shapes file P).sealed_complete _ (here_row file P e le) (says_told file (event_at file e) q).3 in
-          rw (server_owns q g, server_greets g i j, noted g k) refl
+          let r = server_named m.role g.role in
+          rw (owned g Server _ r q, server_tells g r i j, session_noted g m.b g.b k) refl
 
   pub client_finished_sound : client_finished file (past file e) (heard_at file e) ≡ true → Step (bad file) (beginning file e) (event_meant file (event_at file e)) 8
   unfolding client_finished
   client_finished_sound t =
       let (m, own, hm) = is_some_and_true t in
-      let (secret, es, hs) = is_some_and_true hm in
-      let b = both _ _ hs in
-      let (_, _, _, _, _, _, g, event, hello, (_, reply)) = client_said own b.0 in
-      let (PMS, x, prf) = secret_sound_of file P g es in
-      event_same (event ∙ says_same refl refl (finished_same prf)) (ClientFinished hello reply (secret_sound file P e (not_later file P e le) m.a m.b secret b.1 x))
+      let (secret, es, h) = is_some_and_true hm in
+      let b = both _ _ h in
+      let (sealed, role, event) = own_said Client own in
+      let (_, _, _, _, _, _, g) = (shapes file P).sealed_sound _ (here_row file P e le) sealed in
+      let (hello, (_, reply)) = client_told g role b.0 in
+      let (PMS, x, prf) = secret_found g es in
+      let kept = secret_sound file P e (not_later file P e le) m.a m.b secret b.1 x in
+      event_same (event ∙ says_same refl refl (g.whole ∙ finished_same (ap role_meant role) prf)) (ClientFinished hello reply kept)
 
   pub client_finished_complete : Step (bad file) (beginning file e) (event_meant file (event_at file e)) 8 → client_finished file (past file e) (heard_at file e) ≡ true
   unfolding client_finished
   client_finished_complete s = go refl s
     where
-      kept : {m : Sealed} {secret : ℕ} {SID : ℕ} {PMS M Na : paper.nonce} {Pa : ℕ} {A : paper.agent} {Nb : paper.nonce} {Pb : ℕ} {B : paper.agent} →
-          IsSealed file (heard_at file e).row m paper.ClientRole SID M Na Pa A Nb Pb B → RowHolds file secret (paper.Nonce PMS) →
-          In (event.Notes A (secret_note B PMS)) (beginning file e) → past file e (Secret m.a m.b secret) ≡ true
-      kept {m = m} {secret = secret} g x k = secret_complete file P e (not_later file P e le) m.a m.b secret (rw (← g.a, ← g.b) at k) x
-
       go : {E : event.event} → event_meant file (event_at file e) ≡ E → Step (bad file) (beginning file e) E 8 → client_finished file (past file e) (heard_at file e) ≡ true
       go q (ClientFinished i j k) =
           let (m, g) = (shapes file P).sealed_complete _ (here_row file P e le) (says_told file (event_at file e) q).3 in
-          let (secret, es, x) = secret_told file P g in
-          rw (client_owns q g, es, client_greets g i j, kept g x k) refl
+          let r = client_named m.role g.role in
+          let (secret, es, x) = secret_told g refl in
+          rw (owned g Client _ r q, es, client_tells g r i j, secret_noted g x k) refl
 
   pub server_finished_sound : server_finished file (past file e) (heard_at file e) ≡ true → Step (bad file) (beginning file e) (event_meant file (event_at file e)) 9
   unfolding server_finished
   server_finished_sound t =
       let (m, own, hm) = is_some_and_true t in
-      let (secret, es, hs) = is_some_and_true hm in
-      let b = both _ _ hs in
-      let (_, _, _, _, _, _, g, event, (_, hello), reply) = server_said own b.0 in
-      let (PMS, x, prf) = secret_sound_of file P g es in
-      event_same (event ∙ says_same refl refl (finished_same prf)) (ServerFinished hello reply ((sent_sound file P e (not_later file P e le) m.b secret b.1 x).1))
+      let (secret, es, h) = is_some_and_true hm in
+      let b = both _ _ h in
+      let (sealed, role, event) = own_said Server own in
+      let (_, _, _, _, _, _, g) = (shapes file P).sealed_sound _ (here_row file P e le) sealed in
+      let ((_, hello), reply) = server_told g role b.0 in
+      let (PMS, x, prf) = secret_found g es in
+      let (_, kept) = sent_sound file P e (not_later file P e le) m.b secret b.1 x in
+      event_same (event ∙ says_same refl refl (g.whole ∙ finished_same (ap role_meant role) prf)) (ServerFinished hello reply kept)
 
   pub server_finished_complete : Step (bad file) (beginning file e) (event_meant file (event_at file e)) 9 → server_finished file (past file e) (heard_at file e) ≡ true
   unfolding server_finished
   server_finished_complete s = go refl s
     where
-      kept : {m : Sealed} {secret : ℕ} {SID : ℕ} {PMS M Na : paper.nonce} {Pa : ℕ} {A : paper.agent} {Nb : paper.nonce} {Pb : ℕ} {B : paper.agent} {A' : paper.agent} →
-          IsSealed file (heard_at file e).row m paper.ServerRole SID M Na Pa A Nb Pb B → RowHolds file secret (paper.Nonce PMS) →
-          In (event.Says A' B (paper.Crypt (paper.pub_k B) (carried A PMS))) (beginning file e) → past file e (Sent m.b secret) ≡ true
-      kept {m = m} {secret = secret} g x k = sent_complete file P e (not_later file P e le) m.b secret (rw (← g.b) at k) x
-
       go : {E : event.event} → event_meant file (event_at file e) ≡ E → Step (bad file) (beginning file e) E 9 → server_finished file (past file e) (heard_at file e) ≡ true
       go q (ServerFinished i j k) =
           let (m, g) = (shapes file P).sealed_complete _ (here_row file P e le) (says_told file (event_at file e) q).3 in
-          let (secret, es, x) = secret_told file P g in
-          rw (server_owns q g, es, server_greets g i j, kept g x k) refl
+          let r = server_named m.role g.role in
+          let (secret, es, x) = secret_told g refl in
+          rw (owned g Server _ r q, es, server_tells g r i j, secret_sent g x k) refl

@@ -1,18 +1,16 @@
--- A row that is no Crypt under a session key of its side is no Finished of that side.
+-- A Finished is a Crypt under a session key of its side.
 -- Assumes nothing.
 use Prim.Native.Nat.{ℕ}
 use mathlib.Core.Bool.{Bool, true, false, not, true≢false}
 use mathlib.Core.List.{List}
-use mathlib.Core.Path.{◌≡◌, refl, sym, ◌∙◌, ap}
+use mathlib.Core.Path.{◌≡◌, refl, sym, ap}
 use Rattle.std.specs.Prelude.{Some}
 use Rattle.paper.specs.Message as paper
 use Rattle.trace.specs.Promises.{role_meant}
 use Rattle.trace.specs.declared.Role.{Role}
 use Rattle.trace.specs.declared.Role.TheVariants.{Client, Server}
 use Rattle.laws.specs.Choose.{choose}
-use Rattle.laws.specs.Options.{is_some_and}
-use Rattle.laws.proofs.Both.{refuted}
-use Rattle.laws.proofs.Options.{and_then_some, then_some_true, is_some_and_true}
+use Rattle.laws.proofs.Options.{and_then_some, then_some_true}
 use Rattle.forms.specs.Kinds.{server_in, crypt_of, session_of}
 use Rattle.forms.specs.Forms.{agreement_of, sealed_of, under_key}
 use Rattle.forms.specs.declared.leaves.Crypt.{Crypt}
@@ -35,10 +33,6 @@ pub key_of : (file : List ℕ) (r : ℕ) (server : Bool) {x : Sealed} → sealed
 key_of file r server h t =
     let (c, s, ec, es, _, role) = sealed_key file r h in
     rw (ec, es, role) t
-
-pub unsealed : (file : List ℕ) (r : ℕ) (server : Bool) → under_key file r server ≡ false →
-    is_some_and (sealed_of file r) (λ x. choose server (server_in x.role) (not (server_in x.role))) ≡ false
-unsealed file r server u = refuted _ (λ t. let (x, e, s) = is_some_and_true t in true≢false (sym (key_of file r server e s) ∙ u))
 
 -- a role by its side
 abbrev pub role_named : Bool → paper.role

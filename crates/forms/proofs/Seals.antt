@@ -13,7 +13,7 @@ use Rattle.paper.specs.Rules.{agreed, Finished}
 use Rattle.trace.specs.File.{rows_of}
 use Rattle.trace.specs.Meaning.{message}
 use Rattle.trace.specs.Promises.{role_meant, Promised}
-use Rattle.laws.proofs.Both.{both, both3}
+use Rattle.laws.proofs.Both.{both, both3, both4}
 use Rattle.laws.proofs.Options.{one_found, and_then_some, then_some_true}
 use Rattle.forms.specs.Kinds.{session_of}
 use Rattle.forms.specs.Forms.{agreement_of, sealed_of, derived_of, verified_of}
@@ -23,7 +23,6 @@ use Rattle.forms.specs.declared.Sealed.{Sealed}
 use Rattle.forms.specs.declared.Derived.{Derived}
 use Rattle.forms.specs.declared.Verified.{Verified}
 use Rattle.forms.specs.Shapes.{RowHolds, IsAgreed, IsSealed, IsDerived, IsVerified}
-use Rattle.forms.proofs.Flags.{both6}
 use Rattle.forms.proofs.Inverts.{agent_complete, agent_sound, private_complete, private_sound, hash_complete, hash_sound, pair_complete, pair_sound, crypt_complete, crypt_sound, prf_complete, prf_sound, session_complete, session_sound, number_complete, number_sound, nonce_complete, nonce_sound}
 use Rattle.forms.proofs.Links.{three_complete, three_sound, four_complete, four_sound}
 
@@ -79,7 +78,8 @@ module _ (file : List ℕ) (P : Promised file) where
       let (g, eg, hg) = and_then_some hp in
       let (a, ea, ha) = and_then_some hg in
       let (b, eb, hb) = and_then_some ha in
-      let z = both6 _ _ _ _ _ _ (then_some_true hb).0 in
+      let y = both4 _ _ _ _ (then_some_true hb).0 in
+      let z = both3 _ _ _ y.0 in
       let ish = hash_sound file P r l eh in
       let isf = four_sound file P h ish.body.row ef in
       let isp = pair_sound file P f.3 isf.fourth.row ep in
@@ -89,9 +89,9 @@ module _ (file : List ℕ) (P : Promised file) where
       let sid = number_sound file P f.0 isf.first.row z.0 in
       let m = nonce_sound file P f.1 isf.second.row z.1 in
       let na = nonce_sound file P f.2 isf.third.row z.2 in
-      let pa = number_sound file P p.0 isp.first.row z.3 in
-      let nb = nonce_sound file P g.1 isg.second.row z.4 in
-      let pb = number_sound file P g.2 isg.third.row z.5 in
+      let pa = number_sound file P p.0 isp.first.row y.1 in
+      let nb = nonce_sound file P g.1 isg.second.row y.2 in
+      let pb = number_sound file P g.2 isg.third.row y.3 in
       let whole = rw (isf.whole, isp.whole, isg.whole, isa.whole, isb.whole, sid.1, m.1, na.1, pa.1, nb.1, pb.1) at ish.whole in
       (sid.0, m.0, na.0, pa.0, nb.0, pb.0, agreement_told t (agreement_complete r l whole))
 
