@@ -6,18 +6,6 @@ use Rattle.trace.specs.declared.events.Parts.{Parts}
 use Rattle.trace.specs.declared.Event.{Event}
 use Rattle.trace.specs.declared.Event.TheVariants.{Says, Notes}
 
--- the parts of the eight bytes of an event
-abbrev pub parts_of : List ℕ → Parts
-parts_of item =
-    record {
-      kind = byte item 0;
-      sender = byte item 1;
-      receiver = byte item 2;
-      zero = byte item 3;
-      row = word item 4;
-      rest = word item 6;
-    }
-
 abbrev pub parts_at : List ℕ → ℕ → Parts
 parts_at file e =
     record {

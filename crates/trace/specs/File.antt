@@ -1,16 +1,12 @@
 -- The trace file as a list of bytes: document 01, "The trace file". Numbers are little-endian.
 -- Any list of numbers counts as a file: each number modulo 256, and a byte past the end is 0.
-use Rattle.std.specs.Prelude.{ℕ, ◌+◌, ◌*◌, ◌/◌, ◌%◌, ◌^◌, ◌<◌, Bool, ◌&&◌, List, ◌≡◌, eqb, ltb, get_or}
+use Rattle.std.specs.Prelude.{ℕ, ◌+◌, ◌*◌, ◌/◌, ◌%◌, ◌^◌, Bool, ◌&&◌, List, eqb, ltb, get_or}
 
 abbrev pub byte : List ℕ → ℕ → ℕ
 byte file at = get_or file at 0 % 256
 
 unfoldable pub word : List ℕ → ℕ → ℕ
 word file at = byte file at + 256 * byte file (at + 1)
-
--- the eight bytes of a row or an event that begins there
-abbrev pub ItemAt : List ℕ → ℕ → List ℕ → Type 0
-ItemAt file at item = (k : ℕ) → k < 8 → get_or item k 0 ≡ byte file (at + k)
 
 -- the limits, each named once
 abbrev pub row_limit : ℕ

@@ -1,5 +1,6 @@
 pub mod File
 pub mod Rows
+pub mod Items
 pub mod Events
 pub mod Meaning
 pub mod Refusal

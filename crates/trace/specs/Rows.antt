@@ -3,10 +3,6 @@ use Rattle.std.specs.Prelude.{ℕ, ◌+◌, ◌*◌, ◌<◌, ◌≤◌, List, �
 use Rattle.trace.specs.File.{byte, word, rows_from, agent_limit}
 use Rattle.trace.specs.declared.rows.Fields.{Fields}
 
--- the five numbers of the eight bytes of a row
-abbrev pub fields_of : List ℕ → Fields
-fields_of item = record { kind = byte item 0; role = byte item 1; first = word item 2; second = word item 4; third = word item 6 }
-
 abbrev pub fields_at : List ℕ → ℕ → Fields
 fields_at file r =
     record {

@@ -1,6 +1,7 @@
 // Bytes of the file. A byte past the end reads as 0, so a reader needs no bound.
 ghost use Rattle.std.specs.Prelude.{◌≡◌, ◌<◌, ℕ, List};
-ghost use Rattle.trace.specs.File.{byte, word, ItemAt};
+ghost use Rattle.trace.specs.File.{byte, word};
+ghost use Rattle.trace.specs.Items.{ItemAt};
 
 use super::limits::ITEM;
 

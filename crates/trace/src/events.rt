@@ -1,6 +1,7 @@
 // Events: the parts of each, and what the event is.
 ghost use Rattle.std.specs.Prelude.{◌≡◌};
-ghost use Rattle.trace.specs.Events.{parts_of, parts_at, event_of};
+ghost use Rattle.trace.specs.Events.{parts_at, event_of};
+ghost use Rattle.trace.specs.Items.{parts_of};
 
 use super::header::rows_of;
 use super::limits::{ITEM, ROWS_AT};
@@ -31,7 +32,8 @@ fn parts_of(item: [u8; ITEM]) -> Parts
     }
 }
 
-// An event past the end of the file has zeros there.
+// An event past the end of the file has zeros there. Read in place: searches read many.
+#[inline(always)]
 #[tactic(auto, unfolding(crate::specs::File::word))]
 pub fn parts_at(file: &[u8], e: u16) -> Parts
     ensures { result ≡ parts_at file.now e }

@@ -127,6 +127,7 @@ pub fn compromised(file: &[u8], a: AgentNo) -> bool
     header::compromised(file, a.0)
 }
 
+// Read in place, since most who ask for a row ask for one kind.
 #[inline(always)]
 pub fn row_at(file: &[u8], r: RowNo) -> Row
     ensures { result ≡ row_at file.now r.0 }

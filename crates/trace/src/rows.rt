@@ -1,6 +1,7 @@
 // Rows: the five numbers of each, and what the row is.
 ghost use Rattle.std.specs.Prelude.{◌≡◌};
-ghost use Rattle.trace.specs.Rows.{fields_of, fields_at, kind_at};
+ghost use Rattle.trace.specs.Rows.{fields_at, kind_at};
+ghost use Rattle.trace.specs.Items.{fields_of};
 ghost use Rattle.trace.specs.Kinds.{Decodes, role_of, row_of};
 
 use super::limits::{ITEM, ROWS_AT};
