@@ -4,9 +4,11 @@
 ghost use Rattle.std.specs.Prelude.{true, ◌≡◌, suc, length, set};
 ghost use Rattle.trace.specs.File.{agent_limit, rows_of};
 ghost use Rattle.trace.specs.Events.{event_at};
-ghost use Rattle.closure.specs.Closure.{state_of, marked, row_marked, opens, below, learn_row, reopen_row, up_rows, down_rows, pass_rows, Reaches, see_row, see_event, start_keys, key_known, start_rows};
+ghost use Rattle.trace.specs.Kinds.{row_at};
+ghost use Rattle.closure.specs.Closure.{is_crypt, state_of, marked, row_marked, opens, below, learn_row, reopen_row, up_rows, down_rows, pass_rows, Reaches, see_row, see_event, start_keys, key_known, start_rows};
 
 use trace::limits::{AGENT_LIMIT, AGENTS, ROW_LIMIT, ROWS};
+use trace::rows::{Kind, kind_at};
 use trace::{AgentNo, Event, EventNo, Row, RowNo};
 
 // A public key and a private one for each agent.
@@ -58,6 +60,14 @@ fn reach(file: &[u8]) -> u16
 {
     let n = trace::row_count(file);
     if ROWS < n { ROWS } else { n }
+}
+
+// By one byte, since a pass asks it of each marked row.
+#[tactic(auto, unfolding(trace::specs::Kinds::row_of))]
+fn is_crypt(file: &[u8], r: u16) -> bool
+    ensures { result ≡ is_crypt (row_at file.now r) }
+{
+    matches!(kind_at(file, r), Ok(Kind::Crypt))
 }
 
 impl Known {
@@ -171,7 +181,7 @@ impl Known {
         ensures { state_of self.new.rows self.new.keys result ≡
             reopen_row file.now self.old.rows self.old.keys r }
     {
-        if !row_marked(&self.rows, r) {
+        if !row_marked(&self.rows, r) || !is_crypt(file, r) {
             return false;
         }
         let Row::Crypt(k, body) = trace::row_at(file, RowNo(r)) else {
