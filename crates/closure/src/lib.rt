@@ -176,7 +176,8 @@ impl Known {
     }
 
     // Opens a marked Crypt again, with the keys that are known by now: all else was open when it was
-    // marked. Most rows of a pass end at the mark.
+    // marked. Most rows of a pass end at the mark, so that a call would cost more than what it does.
+    #[inline(always)]
     fn reopen(&mut self, file: &[u8], r: u16) -> bool
         ensures { state_of self.new.rows self.new.keys result ≡
             reopen_row file.now self.old.rows self.old.keys r }
