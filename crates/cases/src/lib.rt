@@ -8,8 +8,6 @@ pub mod print;
 
 pub const ROOM: usize = 256;
 
-pub const SAMPLE_LEN: usize = 204;
-
 // The bytes of the sample: its contents part, then each row and each event on a line.
 const SAMPLE: [u8; ROOM] = *b"\
     \x01\0\0\0\x01\0\0\0\0\0\0\0\x14\0\x11\0\x9c\0\x06\0\

@@ -14,5 +14,5 @@ pub fn bytes(rt: &impl Print, bytes: &[u8]) -> io::Result<()> {
 pub fn refusal(rt: &impl Print, cause: Cause) -> io::Result<()> {
     let number = trace::number(cause);
     let place = trace::place(cause);
-    print!(rt; " {number} {place}")
+    print!(rt; "{number} {place}")
 }

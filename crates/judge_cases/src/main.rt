@@ -234,7 +234,7 @@ const FRESH: u8 = 99;
 fn print_verdict(rt: &impl Print, verdict: Result<Verdict, Cause>) -> io::Result<()> {
     match verdict {
         Err(cause) => {
-            print!(rt; " refused")?;
+            print!(rt; " refused ")?;
             print::refusal(rt, cause)
         }
         Ok(Verdict::Illegal(n)) => print!(rt; " illegal {n}"),
@@ -242,6 +242,7 @@ fn print_verdict(rt: &impl Print, verdict: Result<Verdict, Cause>) -> io::Result
     }
 }
 
+// An event's number is a byte, so that no place overflows.
 fn put_event(file: &mut [u8], e: u8, event: Event) {
     let at = 156 + 8 * usize::from(e);
     let (kind, agent, receiver, row) = match event {

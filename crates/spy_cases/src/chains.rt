@@ -2,8 +2,8 @@
 ghost use Rattle.std.specs.Prelude.{◌<◌};
 
 use super::files;
-use super::files::Kind;
 use trace::limits::{LONGEST_FILE, ROWS};
+use trace::rows::Kind;
 
 pub type File = [u8; LONGEST_FILE];
 

@@ -3,17 +3,7 @@ ghost use Rattle.std.specs.Prelude.{◌≡◌, ◌+◌, ◌*◌, ◌≤◌};
 
 use cases::put;
 use trace::limits::{ITEM, ROWS_AT};
-
-// The kinds of row that a chain is made of.
-#[derive(Clone, Copy)]
-pub enum Kind {
-    Number = 1,
-    Nonce = 2,
-    PublicKey = 4,
-    SessionKey = 6,
-    Crypt = 8,
-    Pair = 9,
-}
+use trace::rows::Kind;
 
 fn put_word(file: &mut [u8], at: usize, value: u16) {
     let [low, high] = value.to_le_bytes();

@@ -6,10 +6,10 @@ mod files;
 
 use cases::print;
 use chains::{LINK_ROWS, LINKS};
-use files::Kind;
 use std::io;
 use trace::Cause;
 use trace::limits::{ROW_LIMIT, ROWS};
+use trace::rows::Kind;
 
 // What of the sample is asked about: its first bytes, after changes of a place to a byte; n; and the room that is lent.
 #[derive(Clone, Copy)]
@@ -134,7 +134,7 @@ const FRESH: u8 = 7;
 
 fn print_answer(rt: &impl Print, answer: Result<(), Cause>) -> io::Result<()> {
     if let Err(cause) = answer {
-        print!(rt; " refused")?;
+        print!(rt; " refused ")?;
         print::refusal(rt, cause)?;
     }
     Ok(())

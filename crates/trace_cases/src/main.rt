@@ -1,6 +1,7 @@
 // The cases of document 01 that concern the file: the sample with up to four bytes changed, read, with the part at fault.
 #![tactic(auto)]
 
+use cases::print;
 use std::io;
 use trace::Cause;
 
@@ -187,10 +188,9 @@ const CASES: [(u8, &[(u16, u16)]); 89] = [
 ];
 
 fn print_refusal(rt: &impl Print, file: &[u8], cause: Cause) -> io::Result<()> {
-    let number = trace::number(cause);
-    let place = trace::place(cause);
-    print!(rt; "{number} {place}:")?;
-    cases::print::bytes(rt, trace::part(file, trace::span_at_fault(file, cause)))?;
+    print::refusal(rt, cause)?;
+    print!(rt; ":")?;
+    print::bytes(rt, trace::part(file, trace::span_at_fault(file, cause)))?;
     println!(rt)
 }
 

@@ -85,10 +85,10 @@ impl State {
         if rules::fake(file, &self.known.rows, &mut self.made, event) {
             return Some(1);
         }
-        match forms::leaves::crypt_of(file, row.0) {
-            Some(_) => self.lowest_crypt(file, event),
-            None => self.lowest_plain(file, event),
+        if forms::leaves::crypt_of(file, row.0).is_some() {
+            return self.lowest_crypt(file, event);
         }
+        self.lowest_plain(file, event)
     }
 
     #[tactic(auto, using(crate::proofs::States::said_is, crate::proofs::States::noted_is))]

@@ -75,10 +75,7 @@ impl State {
             return Some(1);
         }
         let next = i + 1;
-        if events <= next {
-            return None;
-        }
-        if !self.exchanges(file, i) {
+        if events <= next || !self.exchanges(file, i) {
             return None;
         }
         put(rules, usize::from(i), SIX);
