@@ -229,8 +229,7 @@ fn row_of(event: Event) -> u16
     ensures { result ≡ (heard_in event).row }
 {
     match event {
-        Event::Says(_, _, row) => row.0,
-        Event::Notes(_, row) => row.0,
+        Event::Says(_, _, row) | Event::Notes(_, row) => row.0,
     }
 }
 
