@@ -1,21 +1,23 @@
 -- The marks of hashes: a row below 1024 is marked exactly when a Finished with that hash was told.
 -- Assumes nothing.
-use Prim.Native.Nat.{ℕ, ◌+◌, ◌-◌, ◌%◌, ◌<◌, ◌≤◌}
+use Prim.Native.Nat.{ℕ, ◌%◌, ◌<◌, ◌≤◌}
 use mathlib.Core.Bool.{Bool, true, false, ◌&&◌, ◌||◌, not}
 use mathlib.Core.List.{List}
 use mathlib.Core.Path.{◌≡◌, refl, sym, ◌∙◌, ap}
 use native.Mathlib.Omega.{arith}
 use native.Mathlib.Nat.{mod-lt}
 use native.Mathlib.Decide.{ℕ_discrete, dec_lt}
-use lib.Dec.{eqb, ltb}
+use lib.Dec.{eqb}
 use lib.ListN.{length, length-replicate}
 use borrow.Author.Tests.{lt-ltb, le-ltb, eq-eqb, eqb-true}
 use Rattle.std.specs.Prelude.{Option, Some, None}
+use Rattle.std.specs.Bool.{then_some}
+use Rattle.std.specs.Option.{is_some}
 use Rattle.trace.specs.File.{row_limit, agent_limit}
 use Rattle.laws.specs.First.{any}
 use Rattle.laws.specs.Choose.{choose}
 use Rattle.laws.proofs.Both.{both, refuted, or_true, or_none, or_assoc, and_true, and_false}
-use Rattle.laws.specs.Options.{is_some_and}
+use Rattle.laws.specs.Options.{and_then, is_some_and}
 use Rattle.laws.proofs.Options.{is_some_and_true}
 use Rattle.forms.specs.Kinds.{server_in, crypt_of}
 use Rattle.forms.specs.Forms.{sealed_of}
@@ -28,7 +30,7 @@ use Rattle.earlier.specs.declared.boxes.Boxes.{Boxes}
 use Rattle.earlier.specs.Heard.{Heard}
 use Rattle.earlier.specs.Earlier.{heard_at, said_to, said_by}
 use Rattle.earlier.specs.Boxes.{latest_to, chain_from, some}
-use Rattle.earlier.specs.Kept.{seal_at, Boxed}
+use Rattle.earlier.specs.Kept.{sealed_at, Boxed}
 use Rattle.earlier.proofs.Chains.{Below, none, more, chain_below, some_same}
 use Rattle.earlier.proofs.Finding.{said_box, by_box, chain_any}
 use Rattle.accepts.specs.declared.Session.{Session}
@@ -54,49 +56,37 @@ mark_length : (marks : List ℕ) → length marks ≡ row_limit → (t : Bool) (
 mark_length marks room true r = mark_room marks room r
 mark_length marks room false r = room
 
--- the seal of a Finished that is found
-abbrev seal_in : Bool → Option Sealed → ℕ
-seal_in server o =
+-- and that of the hash it has, if it has one
+abbrev marked_with : Bool → Option ℕ → List ℕ → List ℕ
+marked_with said o marks =
     elim o [
-      | Some f ↦ choose (choose server (server_in f.role) (not (server_in f.role))) (choose (ltb f.hash row_limit) (f.hash + 1) 65535) 0
-      | None ↦ 0
+      | Some hash ↦ choose said (mark_row marks hash) marks
+      | None ↦ marks
     ]
 
--- a seal that is not 0 has the hash of a Finished that is told
-hash_told : (said own : Bool) (hash x : ℕ) → x < row_limit →
-    ((said && ltb 0 (choose own (choose (ltb hash row_limit) (hash + 1) 65535) 0)) && eqb (choose own (choose (ltb hash row_limit) (hash + 1) 65535) 0 - 1) x) ≡
-    (said && (eqb hash x && own))
-hash_told true false hash x l = sym (and_false (eqb hash x))
-hash_told false false hash x l = refl
-hash_told said true hash x l = go (dec_lt hash row_limit)
-  where
-    go : Dec (hash < row_limit) →
-        ((said && ltb 0 (choose (ltb hash row_limit) (hash + 1) 65535)) && eqb (choose (ltb hash row_limit) (hash + 1) 65535 - 1) x) ≡
-        (said && (eqb hash x && true))
-    go (yes m) =
-        let one : hash + 1 - 1 ≡ hash = omega arith in
-        rw (lt-ltb hash row_limit m, lt-ltb 0 (hash + 1) (omega arith), one, and_true said, and_true (eqb hash x)) refl
-    go (no m) =
-        rw (
-          le-ltb hash row_limit (omega arith),
-          refuted (eqb (65535 - 1) x) (λ t. far x l (eqb-true (65535 - 1) x t)),
-          refuted (eqb hash x) (λ t. past_marks x l (eqb-true hash x t)),
-          and_true said,
-        )
-        refl
-      where
-        far : (x : ℕ) → x < row_limit → 65535 - 1 ≡ x → ⊥
-        far x l q = omega arith
+mark_seal : (marks : List ℕ) → length marks ≡ row_limit → (said : Bool) (o : Option ℕ) (x : ℕ) → x < row_limit →
+    row_marked (marked_with said o marks) x ≡ (row_marked marks x || (said && is_some_and o (λ hash. eqb hash x)))
+mark_seal marks room said (Some hash) x l = mark_if marks room said hash x l
+mark_seal marks room said None x l = sym (ap (λ b. row_marked marks x || b) (and_false said) ∙ or_none (row_marked marks x))
 
-        past_marks : (x : ℕ) → x < row_limit → hash ≡ x → ⊥
-        past_marks x l q = omega arith
+seal_length : (marks : List ℕ) → length marks ≡ row_limit → (said : Bool) (o : Option ℕ) → length (marked_with said o marks) ≡ row_limit
+seal_length marks room said (Some hash) = mark_length marks room said hash
+seal_length marks room said None = room
 
-seal_told : (said server : Bool) (o : Option Sealed) (x : ℕ) → x < row_limit →
-    ((said && ltb 0 (seal_in server o)) && eqb (seal_in server o - 1) x) ≡
+-- the seal of a Finished that is found
+abbrev seal_in : Bool → Option Sealed → Option ℕ
+seal_in server o = and_then o (λ f. then_some (choose server (server_in f.role) (not (server_in f.role))) f.hash)
+
+-- a seal is the hash of a Finished that is told
+hash_told : (own : Bool) (hash x : ℕ) → is_some_and (then_some own hash) (λ h. eqb h x) ≡ (eqb hash x && own)
+hash_told true hash x = sym (and_true (eqb hash x))
+hash_told false hash x = sym (and_false (eqb hash x))
+
+seal_told : (said server : Bool) (o : Option Sealed) (x : ℕ) →
+    (said && is_some_and (seal_in server o) (λ hash. eqb hash x)) ≡
     (said && is_some_and o (λ f. eqb f.hash x && choose server (server_in f.role) (not (server_in f.role))))
-seal_told said server (Some f) x l = hash_told said (choose server (server_in f.role) (not (server_in f.role))) f.hash x l
-seal_told true server None x l = refl
-seal_told false server None x l = refl
+seal_told said server (Some f) x = ap (λ b. said && b) (hash_told (choose server (server_in f.role) (not (server_in f.role))) f.hash x)
+seal_told said server None x = refl
 
 module _ (file : List ℕ) (server : Bool) (to : ℕ) where
   module _ (boxes : Boxes) (e : ℕ) (X : Boxed file boxes e) where
@@ -104,17 +94,17 @@ module _ (file : List ℕ) (server : Bool) (to : ℕ) where
         row_marked (mark_event file boxes server to j marks) x ≡ (row_marked marks x || told_finished file (heard_at file j) server to x)
     marked_more marks room j x m l =
         let h = heard_at file j in
-        mark_if marks room (said_to h to && ltb 0 (seal_at boxes server j)) (seal_at boxes server j - 1) x l ∙
+        mark_seal marks room (said_to h to) (sealed_at boxes server j) x l ∙
         ap (λ (b : Bool). row_marked marks x || b)
-        (ap (λ (v : ℕ). (said_to h to && ltb 0 v) && eqb (v - 1) x) (X.seals server j m) ∙
-        seal_told (said_to h to) server (sealed_of file h.row) x l)
+        (ap (λ (o : Option ℕ). said_to h to && is_some_and o (λ hash. eqb hash x)) (X.seals server j m) ∙
+        seal_told (said_to h to) server (sealed_of file h.row) x)
 
     all_marked : {js : List ℕ} → Below e js → (marks : List ℕ) → length marks ≡ row_limit → (x : ℕ) → x < row_limit →
         row_marked (mark_all file boxes server to js marks) x ≡ (row_marked marks x || some (λ j. told_finished file (heard_at file j) server to x) js)
     unfolding mark_all
     all_marked none marks room x l = sym (or_none (row_marked marks x))
     all_marked (more {j} {js} m b) marks room x l =
-        let room' = mark_length marks room (said_to (heard_at file j) to && ltb 0 (seal_at boxes server j)) (seal_at boxes server j - 1) in
+        let room' = seal_length marks room (said_to (heard_at file j) to) (sealed_at boxes server j) in
         all_marked b (mark_event file boxes server to j marks) room' x l ∙
         rw (marked_more marks room j x m l)
         (or_assoc (row_marked marks x) (told_finished file (heard_at file j) server to x) (some (λ i. told_finished file (heard_at file i) server to x) js))
@@ -140,13 +130,9 @@ module _ (file : List ℕ) (server : Bool) (to : ℕ) where
         go (no l) = rw (le-ltb hash row_limit (omega arith)) refl
 
 -- a Finished has a seal
-seal_some : (small : Bool) (hash : ℕ) → ltb 0 (choose small (hash + 1) 65535) ≡ true
-seal_some true hash = lt-ltb 0 (hash + 1) (omega arith)
-seal_some false hash = refl
-
 seal_found : (server : Bool) {o : Option Sealed} {f : Sealed} → o ≡ Some f → choose server (server_in f.role) (not (server_in f.role)) ≡ true →
-    ltb 0 (seal_in server o) ≡ true
-seal_found server {f = f} e own = rw (e, own) (seal_some (ltb f.hash row_limit) f.hash)
+    is_some (seal_in server o) ≡ true
+seal_found server {f = f} e own = rw (e, own) refl
 
 -- and is a Crypt whose body is its hash
 same_body : (test : ℕ → Bool) {k : Option Crypt} {o : Option Sealed} {c : Crypt} {f : Sealed} → k ≡ Some c → o ≡ Some f → c.body ≡ f.hash →
@@ -175,7 +161,7 @@ module _ (file : List ℕ) (boxes : Boxes) (e : ℕ) (X : Boxed file boxes e) wh
     agreed_by h = said_finished file h by s && is_some_and (sealed_of file h.row) (λ f. answered_by f.hash)
 
     agreed_parts : (i : ℕ) → i < e → said_finished file (heard_at file i) by s ≡ true →
-        (said_by (heard_at file i) by.from by.to ≡ true) × (ltb 0 (seal_at boxes server i) ≡ true) ×
+        (said_by (heard_at file i) by.from by.to ≡ true) × (is_some (sealed_at boxes server i) ≡ true) ×
         (is_some_and (crypt_of file (heard_at file i).row) (λ c. answered_by c.body) ≡
         is_some_and (sealed_of file (heard_at file i).row) (λ f. answered_by f.hash))
     agreed_parts i l t =
@@ -185,14 +171,14 @@ module _ (file : List ℕ) (boxes : Boxes) (e : ℕ) (X : Boxed file boxes e) wh
         let own = both _ _ tf in
         let (c, _, ec, _, body, _) = sealed_key file h.row ef in (
           p.0,
-          ap (ltb 0) (X.seals server i l) ∙ seal_found server ef own.1,
+          ap is_some (X.seals server i l) ∙ seal_found server ef own.1,
           same_body answered_by ec ef body,
         )
 
     agreed_same : (i : ℕ) → i < e → agreed_in file boxes told e by s i ≡ agreed_by (heard_at file i)
     agreed_same i l =
         let h = heard_at file i in
-        reorder (said_by h by.from by.to) (ltb 0 (seal_at boxes server i)) (is_some_and (crypt_of file h.row) (λ c. answered_by c.body))
+        reorder (said_by h by.from by.to) (is_some (sealed_at boxes server i)) (is_some_and (crypt_of file h.row) (λ c. answered_by c.body))
         (is_some_and (sealed_of file h.row) (λ f. answered_by f.hash)) (said_finished file h by s) (agreed_parts i l)
 
     both_at : both_in file boxes e by s ≡ both_finished file e by s

@@ -13,6 +13,7 @@ use lib.Dec.{eqb, ltb}
 use lib.ListN.{get_or, set, length, length-set, length-replicate}
 use lib.Seq.{get_or-set_same, get_or-set_other}
 use borrow.Author.Tests.{eqb-true, lt-ltb, ltb-true}
+use Rattle.std.specs.Prelude.{Option, None}
 use Rattle.trace.specs.File.{event_limit, agent_limit}
 use Rattle.laws.specs.Choose.{choose}
 use Rattle.laws.proofs.First.{lt_suc, bool_cases}
@@ -66,8 +67,8 @@ pub none_boxed : (file : List ℕ) → Boxed file none_kept 0
 none_boxed file =
     record {
       links = none_linked file;
-      clients_room = length-replicate {A = ℕ} event_limit 0;
-      servers_room = length-replicate {A = ℕ} event_limit 0;
+      clients_room = length-replicate {A = Option ℕ} event_limit None;
+      servers_room = length-replicate {A = Option ℕ} event_limit None;
       cards_room = length-replicate {A = Card} event_limit card.Other;
       seals = λ server j l. absurd (omega arith);
       cards = λ j l. absurd (omega arith);
@@ -217,10 +218,10 @@ module _ (file : List ℕ) (boxes : Boxes) (e : ℕ) (x : Boxed file boxes e) (f
   same_cards : boxed.cards ≡ boxes.cards
   same_cards = (same_rest (is_again file e (get_or boxes.slots (slot_of (heard_at file e)) 0) (heard_at file e)) boxes _ _ _).2
 
-  client_before : (j : ℕ) → j < e → get_or boxed.clients j 0 ≡ seal_mark file false (heard_at file j).row
+  client_before : (j : ℕ) → j < e → get_or boxed.clients j None ≡ seal_mark file false (heard_at file j).row
   client_before j l = rw same_clients (rw (lt-ltb j event_limit (omega arith)) at (x.seals false j l))
 
-  server_before : (j : ℕ) → j < e → get_or boxed.servers j 0 ≡ seal_mark file true (heard_at file j).row
+  server_before : (j : ℕ) → j < e → get_or boxed.servers j None ≡ seal_mark file true (heard_at file j).row
   server_before j l = rw same_servers (rw (lt-ltb j event_limit (omega arith)) at (x.seals true j l))
 
   card_before : (j : ℕ) → j < e → get_or boxed.cards j card.Other ≡ card_of file (heard_at file j)
@@ -236,10 +237,10 @@ module _ (file : List ℕ) (boxes : Boxes) (e : ℕ) (x : Boxed file boxes e) (f
   cards_room = ap length same_cards ∙ x.cards_room
 
   seals' : (server : Bool) (j : ℕ) → j < suc e →
-      get_or (choose server (set boxed.servers e (seal_mark file true (heard_at file e).row)) (set boxed.clients e (seal_mark file false (heard_at file e).row))) j 0 ≡
+      get_or (choose server (set boxed.servers e (seal_mark file true (heard_at file e).row)) (set boxed.clients e (seal_mark file false (heard_at file e).row))) j None ≡
       seal_mark file server (heard_at file j).row
-  seals' true j l = written boxed.servers e 0 (λ k. seal_mark file true (heard_at file k).row) (omega (arith, servers_room)) server_before j l
-  seals' false j l = written boxed.clients e 0 (λ k. seal_mark file false (heard_at file k).row) (omega (arith, clients_room)) client_before j l
+  seals' true j l = written boxed.servers e None (λ k. seal_mark file true (heard_at file k).row) (omega (arith, servers_room)) server_before j l
+  seals' false j l = written boxed.clients e None (λ k. seal_mark file false (heard_at file k).row) (omega (arith, clients_room)) client_before j l
 
   pub keep_boxed : Boxed file (kept_in file boxes e) (suc e)
   keep_boxed =

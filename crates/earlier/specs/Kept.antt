@@ -1,8 +1,9 @@
 -- What is kept of each event: its place in its box, the hash of its Finished, its card. No promise cites this file.
-use Rattle.std.specs.Prelude.{ℕ, suc, ◌+◌, ◌-◌, ◌*◌, ◌%◌, ◌<◌, ◌≤◌, Bool, true, false, ◌&&◌, not, List, Option, Some, None, ◌≡◌, ltb, length, get_or, set, replicate}
+use Rattle.std.specs.Prelude.{ℕ, suc, ◌+◌, ◌-◌, ◌*◌, ◌%◌, ◌<◌, ◌≤◌, Bool, true, false, ◌&&◌, not, List, Option, None, ◌≡◌, ltb, length, get_or, set, replicate}
 use Rattle.std.specs.Bool.{then_some}
-use Rattle.trace.specs.File.{row_limit, event_limit}
+use Rattle.trace.specs.File.{event_limit}
 use Rattle.laws.specs.Choose.{choose}
+use Rattle.laws.specs.Options.{and_then}
 use Rattle.forms.specs.Kinds.{server_in}
 use Rattle.forms.specs.Forms.{sealed_of}
 use Rattle.earlier.specs.Heard.{Heard}
@@ -19,8 +20,8 @@ none_kept =
       heads = replicate box_count 0;
       links = replicate event_limit 0;
       slots = replicate slot_count 0;
-      clients = replicate event_limit 0;
-      servers = replicate event_limit 0;
+      clients = replicate event_limit None;
+      servers = replicate event_limit None;
       cards = replicate event_limit card.Other;
     }
 
@@ -31,20 +32,12 @@ slot_of h = (h.row * 5 + h.from * 97 + h.to * 31) % slot_count
 abbrev pub is_again : List ℕ → (e link : ℕ) → Heard → Bool
 is_again file e link h = ltb 0 link && ltb link (e + 1) && same_heard (heard_at file (link - 1)) h
 
--- the hash of a Finished of that side, by one more than its row; a row past the marks is some number above them
-abbrev pub seal_mark : List ℕ → Bool → ℕ → ℕ
-seal_mark file server r =
-    elim (sealed_of file r) [
-      | Some f ↦ choose (choose server (server_in f.role) (not (server_in f.role))) (choose (ltb f.hash row_limit) (f.hash + 1) 65535) 0
-      | None ↦ 0
-    ]
+-- the row of the hash of a Finished of that side
+abbrev pub seal_mark : List ℕ → Bool → ℕ → Option ℕ
+seal_mark file server r = and_then (sealed_of file r) (λ f. then_some (choose server (server_in f.role) (not (server_in f.role))) f.hash)
 
-abbrev pub seal_at : Boxes → Bool → ℕ → ℕ
-seal_at boxes server e = choose (ltb e event_limit) (get_or (choose server boxes.servers boxes.clients) e 0) 0
-
--- as it is read back: the row of the hash, if there is one
 abbrev pub sealed_at : Boxes → Bool → ℕ → Option ℕ
-sealed_at boxes server e = then_some (ltb 0 (seal_at boxes server e)) (seal_at boxes server e - 1)
+sealed_at boxes server e = choose (ltb e event_limit) (get_or (choose server boxes.servers boxes.clients) e None) None
 
 -- event e in front of its box, unless it is known that one that equals it is kept
 abbrev pub boxed_in : List ℕ → Boxes → ℕ → Boxes
@@ -91,5 +84,5 @@ pub record Boxed (file : List ℕ) (boxes : Boxes) (e : ℕ) : Type 0 where
   pub clients_room : length boxes.clients ≡ event_limit
   pub servers_room : length boxes.servers ≡ event_limit
   pub cards_room : length boxes.cards ≡ event_limit
-  pub seals : (server : Bool) (j : ℕ) → j < e → seal_at boxes server j ≡ seal_mark file server (heard_at file j).row
+  pub seals : (server : Bool) (j : ℕ) → j < e → sealed_at boxes server j ≡ seal_mark file server (heard_at file j).row
   pub cards : (j : ℕ) → j < e → card_at boxes j ≡ card_of file (heard_at file j)

@@ -15,7 +15,7 @@ ghost use Rattle.earlier.specs.Kept.{slot_of, is_again, seal_mark, sealed_at, bo
 
 use super::cards::Card;
 use super::{Wanted, cards};
-use trace::limits::{AGENT_LIMIT, AGENTS, EVENT_LIMIT, EVENTS, ROWS};
+use trace::limits::{AGENT_LIMIT, AGENTS, EVENT_LIMIT, EVENTS};
 use trace::{Event, EventNo, Role};
 
 // First the boxes of receivers, then those of notes.
@@ -25,9 +25,6 @@ const BOXES: usize = 2 * AGENT_LIMIT;
 
 const SLOTS: usize = 1024;
 
-// A hash past the rows that have marks.
-const FAR: u16 = 65535;
-
 // The heads of the boxes; of each event the link to the one before it in its box, the hash of its Finished as a
 // client's and as a server's, and its card; and the slots.
 #[derive(Drop)]
@@ -35,8 +32,8 @@ pub struct Boxes {
     pub heads: [u16; BOXES],
     pub links: [u16; EVENT_LIMIT],
     pub slots: [u16; SLOTS],
-    pub clients: [u16; EVENT_LIMIT],
-    pub servers: [u16; EVENT_LIMIT],
+    pub clients: [Option<u16>; EVENT_LIMIT],
+    pub servers: [Option<u16>; EVENT_LIMIT],
     pub cards: [Card; EVENT_LIMIT],
 }
 
@@ -45,8 +42,8 @@ pub const EMPTY: Boxes = Boxes {
     heads: [0; BOXES],
     links: [0; EVENT_LIMIT],
     slots: [0; SLOTS],
-    clients: [0; EVENT_LIMIT],
-    servers: [0; EVENT_LIMIT],
+    clients: [None; EVENT_LIMIT],
+    servers: [None; EVENT_LIMIT],
     cards: [Card::Other; EVENT_LIMIT],
 };
 
@@ -188,17 +185,16 @@ fn is_again(file: &[u8], e: u16, link: u16, event: Event) -> bool
     0 < link && link <= e && trace::event_at(file, EventNo(link - 1)) == event
 }
 
-// The hash of a client's Finished and of a server's, by one more than its row, or 0 where the row is none.
-fn seals_of(file: &[u8], r: u16) -> (u16, u16)
+// The row of the hash of a client's Finished, and of a server's.
+fn seals_of(file: &[u8], r: u16) -> (Option<u16>, Option<u16>)
     ensures { result ≡ (seal_mark file.now false r, seal_mark file.now true r) }
 {
     let Some(f) = forms::finished(file, r) else {
-        return (0, 0);
+        return (None, None);
     };
-    let seal = if f.hash < ROWS { f.hash + 1 } else { FAR };
     match f.role {
-        Role::Client => (seal, 0),
-        Role::Server => (0, seal),
+        Role::Client => (Some(f.hash), None),
+        Role::Server => (None, Some(f.hash)),
     }
 }
 
@@ -210,7 +206,7 @@ pub fn sealed(boxes: &Boxes, role: Role, e: u16) -> Option<u16>
         Role::Client => &boxes.clients,
         Role::Server => &boxes.servers,
     };
-    seals.get(usize::from(e))?.checked_sub(1)
+    *seals.get(usize::from(e))?
 }
 
 // Event e is put into its box, unless its slot leads to one that equals it.
@@ -233,8 +229,7 @@ fn row_of(event: Event) -> u16
     ensures { result ≡ (heard_in event).row }
 {
     match event {
-        Event::Says(_, _, row) => row.0,
-        Event::Notes(_, row) => row.0,
+        Event::Says(_, _, row) | Event::Notes(_, row) => row.0,
     }
 }
 

@@ -12,7 +12,7 @@ use forms::{Hello, Kept, Remembered, Reply, Signed};
 use trace::Event;
 
 // A message as the searches compare it.
-#[derive(Clone, Copy)]
+#[derive(Clone, Copy, PartialEq, Eq)]
 pub enum Card {
     // None that is looked for; the first, so that a card of zeros is one.
     Other,

@@ -11,7 +11,7 @@ pub use boxes::{Boxes, EMPTY, happened};
 use trace::Event;
 
 // What a rule looks for: agents by their numbers, other parts by their rows.
-#[derive(Clone, Copy)]
+#[derive(Clone, Copy, PartialEq, Eq)]
 pub enum Wanted {
     // Anyone said CH to B with this A and SID: B, A, SID.
     HelloFor(u16, u16, u16),

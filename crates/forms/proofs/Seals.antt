@@ -20,7 +20,7 @@ use Rattle.forms.specs.Forms.{agreement_of, sealed_of, derived_of, verified_of}
 use Rattle.forms.specs.declared.leaves.Session.{Session}
 use Rattle.forms.specs.declared.Agreed.{Agreed}
 use Rattle.forms.specs.declared.Sealed.{Sealed}
-use Rattle.forms.specs.declared.Derived.{Derived}
+use Rattle.forms.specs.declared.leaves.Prf.{Prf}
 use Rattle.forms.specs.declared.Verified.{Verified}
 use Rattle.forms.specs.Shapes.{RowHolds, IsAgreed, IsSealed, IsDerived, IsVerified}
 use Rattle.forms.proofs.Inverts.{agent_complete, agent_sound, private_complete, private_sound, hash_complete, hash_sound, pair_complete, pair_sound, crypt_complete, crypt_sound, prf_complete, prf_sound, session_complete, session_sound, number_complete, number_sound, nonce_complete, nonce_sound}
@@ -151,7 +151,7 @@ module _ (file : List ℕ) (P : Promised file) where
 
   pub derived_complete : (r : ℕ) {R : paper.role} {M Na Nb : paper.nonce} → r < rows_of file →
       message file r ≡ paper.Pair (paper.Nonce (paper.PRF M Na Nb)) (paper.Key (paper.session_k R Na Nb M)) →
-      (x : Derived) × IsDerived file r x R M Na Nb
+      (x : Prf) × IsDerived file r x R M Na Nb
   unfolding derived_of
   derived_complete r l e =
       let (p, isp) = pair_complete file P r l e in
@@ -160,13 +160,13 @@ module _ (file : List ℕ) (P : Promised file) where
       let m = same_row f.secret s.m isf.secret iss.m in
       let na = same_row f.na s.na isf.na iss.na in
       let nb = same_row f.nb s.nb isf.nb iss.nb in
-      (_, record { found = rw (isp.found, isf.found, iss.found, m, na, nb) refl; whole = e; m = isf.secret; na = isf.na; nb = isf.nb })
+      (_, record { found = rw (isp.found, isf.found, iss.found, m, na, nb) refl; whole = e; secret = isf.secret; na = isf.na; nb = isf.nb })
 
-  derived_told : {r : ℕ} {x : Derived} {R : paper.role} {M Na Nb : paper.nonce} → derived_of file r ≡ Some x →
-      (y : Derived) × IsDerived file r y R M Na Nb → IsDerived file r x R M Na Nb
+  derived_told : {r : ℕ} {x : Prf} {R : paper.role} {M Na Nb : paper.nonce} → derived_of file r ≡ Some x →
+      (y : Prf) × IsDerived file r y R M Na Nb → IsDerived file r x R M Na Nb
   derived_told h (y, c) = rw (one_found c.found h) at c
 
-  pub derived_sound : (r : ℕ) {x : Derived} → r < rows_of file → derived_of file r ≡ Some x →
+  pub derived_sound : (r : ℕ) {x : Prf} → r < rows_of file → derived_of file r ≡ Some x →
       (R : paper.role) × (M : paper.nonce) × (Na : paper.nonce) × (Nb : paper.nonce) × IsDerived file r x R M Na Nb
   unfolding derived_of
   derived_sound r l h =

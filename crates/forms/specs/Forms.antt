@@ -5,6 +5,7 @@ use Rattle.laws.specs.Choose.{choose}
 use Rattle.laws.specs.Options.{and_then, is_some_and}
 use Rattle.paper.specs.Message.{Authority}
 use Rattle.forms.specs.Kinds.{server_in, agent_of, private_of, hash_of, pair_of, crypt_of, prf_of, session_of, is_number, is_nonce, is_key}
+use Rattle.forms.specs.declared.leaves.Prf.{Prf}
 use Rattle.forms.specs.declared.Hello.{Hello}
 use Rattle.forms.specs.declared.Reply.{Reply}
 use Rattle.forms.specs.declared.Kept.{Kept}
@@ -12,7 +13,6 @@ use Rattle.forms.specs.declared.Signed.{Signed}
 use Rattle.forms.specs.declared.Remembered.{Remembered}
 use Rattle.forms.specs.declared.Agreed.{Agreed}
 use Rattle.forms.specs.declared.Sealed.{Sealed}
-use Rattle.forms.specs.declared.Derived.{Derived}
 use Rattle.forms.specs.declared.Verified.{Verified}
 
 -- Pair X (Pair Y Z).
@@ -100,13 +100,12 @@ under_key file r server =
     choose server (server_in s.role) (not (server_in s.role))))
 
 -- {PRF(M, Na, Nb), a session key of the same Na, Nb and M}, of either role.
-unfoldable pub derived_of : List ℕ → ℕ → Option Derived
+unfoldable pub derived_of : List ℕ → ℕ → Option Prf
 derived_of file r =
     and_then (pair_of file r) (λ p.
     and_then (prf_of file p.0) (λ f.
     and_then (session_of file p.1) (λ s.
-    then_some (eqb f.secret s.m && eqb f.na s.na && eqb f.nb s.nb)
-    (record { m = f.secret; na = f.na; nb = f.nb }))))
+    then_some (eqb f.secret s.m && eqb f.na s.na && eqb f.nb s.nb) f)))
 
 -- Hash {Nb, Agent B, PMS} under a private key: signer and agent by their numbers, and else rows.
 unfoldable pub verified_of : List ℕ → ℕ → Option Verified

@@ -17,7 +17,6 @@ use Rattle.forms.specs.declared.Signed.{Signed}
 use Rattle.forms.specs.declared.Remembered.{Remembered}
 use Rattle.forms.specs.declared.Agreed.{Agreed}
 use Rattle.forms.specs.declared.Sealed.{Sealed}
-use Rattle.forms.specs.declared.Derived.{Derived}
 use Rattle.forms.specs.declared.Verified.{Verified}
 
 -- row r of the file holds X
@@ -149,10 +148,10 @@ module _ (file : List ℕ) (r : ℕ) where
     pub pb : RowHolds file x.pb (paper.Number Pb)
     pub b : x.b ≡ B
 
-  pub record IsDerived (x : Derived) (R : paper.role) (M Na Nb : paper.nonce) : Type 0 where
+  pub record IsDerived (x : Prf) (R : paper.role) (M Na Nb : paper.nonce) : Type 0 where
     pub found : derived_of file r ≡ Some x
     pub whole : message file r ≡ paper.Pair (paper.Nonce (paper.PRF M Na Nb)) (paper.Key (paper.session_k R Na Nb M))
-    pub m : RowHolds file x.m (paper.Nonce M)
+    pub secret : RowHolds file x.secret (paper.Nonce M)
     pub na : RowHolds file x.na (paper.Nonce Na)
     pub nb : RowHolds file x.nb (paper.Nonce Nb)
 
@@ -237,8 +236,8 @@ pub record Shaped (file : List ℕ) : Type 0 where
       IsSealed file r x (role_meant x.role) SID M Na Pa x.a Nb Pb x.b
   pub derived_complete : (r : ℕ) {R : paper.role} {M Na Nb : paper.nonce} → r < rows_of file →
       message file r ≡ paper.Pair (paper.Nonce (paper.PRF M Na Nb)) (paper.Key (paper.session_k R Na Nb M)) →
-      (x : Derived) × IsDerived file r x R M Na Nb
-  pub derived_sound : (r : ℕ) {x : Derived} → r < rows_of file → derived_of file r ≡ Some x →
+      (x : Prf) × IsDerived file r x R M Na Nb
+  pub derived_sound : (r : ℕ) {x : Prf} → r < rows_of file → derived_of file r ≡ Some x →
       (R : paper.role) × (M : paper.nonce) × (Na : paper.nonce) × (Nb : paper.nonce) × IsDerived file r x R M Na Nb
   pub verified_complete : (r : ℕ) {S : paper.agent} {Nb : paper.nonce} {B : paper.agent} {PMS : paper.nonce} → r < rows_of file →
       message file r ≡

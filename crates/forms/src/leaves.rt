@@ -4,20 +4,20 @@ ghost use Rattle.forms.specs.Kinds.{agent_of, public_of, private_of, hash_of, pa
 
 use trace::{Role, Row, RowNo};
 
-#[derive(Clone, Copy)]
+#[derive(Clone, Copy, PartialEq, Eq, Debug)]
 pub struct Crypt {
     pub key: u16,
     pub body: u16,
 }
 
-#[derive(Clone, Copy)]
+#[derive(Clone, Copy, PartialEq, Eq, Debug)]
 pub struct Prf {
     pub secret: u16,
     pub na: u16,
     pub nb: u16,
 }
 
-#[derive(Clone, Copy)]
+#[derive(Clone, Copy, PartialEq, Eq, Debug)]
 pub struct Session {
     pub role: Role,
     pub na: u16,

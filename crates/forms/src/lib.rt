@@ -13,7 +13,7 @@ use trace::Role;
 // Document 01: agent 1 signs certificates.
 const AUTHORITY: u16 = 1;
 
-#[derive(Clone, Copy)]
+#[derive(Clone, Copy, PartialEq, Eq, Debug)]
 pub struct Hello {
     pub agent: u16,
     pub na: u16,
@@ -21,26 +21,26 @@ pub struct Hello {
     pub pa: u16,
 }
 
-#[derive(Clone, Copy)]
+#[derive(Clone, Copy, PartialEq, Eq, Debug)]
 pub struct Reply {
     pub nb: u16,
     pub sid: u16,
     pub pb: u16,
 }
 
-#[derive(Clone, Copy)]
+#[derive(Clone, Copy, PartialEq, Eq, Debug)]
 pub struct Kept {
     pub agent: u16,
     pub secret: u16,
 }
 
-#[derive(Clone, Copy)]
+#[derive(Clone, Copy, PartialEq, Eq, Debug)]
 pub struct Signed {
     pub agent: u16,
     pub key: u16,
 }
 
-#[derive(Clone, Copy)]
+#[derive(Clone, Copy, PartialEq, Eq, Debug)]
 pub struct Remembered {
     pub sid: u16,
     pub a: u16,
@@ -48,7 +48,7 @@ pub struct Remembered {
     pub m: u16,
 }
 
-#[derive(Clone, Copy)]
+#[derive(Clone, Copy, PartialEq, Eq, Debug)]
 pub struct Agreed {
     pub sid: u16,
     pub m: u16,
@@ -60,7 +60,7 @@ pub struct Agreed {
     pub b: u16,
 }
 
-#[derive(Clone, Copy)]
+#[derive(Clone, Copy, PartialEq, Eq, Debug)]
 pub struct Sealed {
     pub role: Role,
     pub hash: u16,
@@ -74,14 +74,7 @@ pub struct Sealed {
     pub b: u16,
 }
 
-#[derive(Clone, Copy)]
-pub struct Derived {
-    pub m: u16,
-    pub na: u16,
-    pub nb: u16,
-}
-
-#[derive(Clone, Copy)]
+#[derive(Clone, Copy, PartialEq, Eq, Debug)]
 pub struct Verified {
     pub signer: u16,
     pub nb: u16,
@@ -215,20 +208,16 @@ pub fn under_key(file: &[u8], r: u16, role: Role) -> bool
     s.role == role
 }
 
-// {PRF(M, Na, Nb), a session key of the same Na, Nb and M}, of either role.
+// {PRF(M, Na, Nb), a session key of the same Na, Nb and M}, of either role: the PRF's parts.
 #[tactic(auto, unfolding(crate::specs::Forms::derived_of))]
-pub fn spy_keys(file: &[u8], r: u16) -> Option<Derived>
+pub fn spy_keys(file: &[u8], r: u16) -> Option<leaves::Prf>
     ensures { result ≡ derived_of file.now r }
 {
     let (f, s) = leaves::pair_of(file, r)?;
     let f = leaves::prf_of(file, f)?;
     let s = leaves::session_of(file, s)?;
     let same = f.secret == s.m && f.na == s.na && f.nb == s.nb;
-    same.then_some(Derived {
-        m: f.secret,
-        na: f.na,
-        nb: f.nb,
-    })
+    same.then_some(f)
 }
 
 // Hash {Nb, Agent B, PMS} under a private key: signer and agent by their numbers, and else rows.

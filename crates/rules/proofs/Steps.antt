@@ -144,7 +144,7 @@ module _ (file : List ℕ) (P : Promised file) (e : ℕ) (le : e < events_of fil
         let g = (shapes file P).derived_sound h.row here ed in
         event_same
         (notes_meant file (event_at file e) n.0 ∙ notes_same (eqb-true _ _ n.1) g.4.whole)
-        (SpyKeys (rw g.4.m.meant at ((R.known_right d.m g.4.m.row).0 c.0))
+        (SpyKeys (rw g.4.secret.meant at ((R.known_right d.secret g.4.secret.row).0 c.0))
         (rw g.4.na.meant at ((R.known_right d.na g.4.na.row).0 c.1))
         (rw g.4.nb.meant at ((R.known_right d.nb g.4.nb.row).0 c.2)))
 
@@ -156,7 +156,7 @@ module _ (file : List ℕ) (P : Promised file) (e : ℕ) (le : e < events_of fil
         go _ q (SpyKeys x y z) =
             let t = notes_told file (event_at file e) q in
             let (d, g) = (shapes file P).derived_complete h.row here t.2 in
-            let i = (R.known_right d.m g.m.row).1 (rw g.m.meant x) in
+            let i = (R.known_right d.secret g.secret.row).1 (rw g.secret.meant x) in
             let j = (R.known_right d.na g.na.row).1 (rw g.na.meant y) in
             let k = (R.known_right d.nb g.nb.row).1 (rw g.nb.meant z) in
             rw (t.0, eq-eqb h.from 0 t.1, g.found, i, j, k) refl

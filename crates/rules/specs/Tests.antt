@@ -26,7 +26,7 @@ fake file known h = h.says && eqb h.from 0 && can_make file known h.row
 unfoldable pub spy_keys : List ℕ → (known : List ℕ) → Heard → Bool
 spy_keys file known h =
     noted_by h 0 &&
-    is_some_and (derived_of file h.row) (λ d. row_marked known d.m && row_marked known d.na && row_marked known d.nb)
+    is_some_and (derived_of file h.row) (λ f. row_marked known f.secret && row_marked known f.na && row_marked known f.nb)
 
 unfoldable pub client_hello : List ℕ → (used : List ℕ) → Heard → Bool
 client_hello file used h = h.says && is_some_and (hello_of file h.row) (λ m. eqb m.agent h.from && fresh file used m.na)

@@ -44,10 +44,10 @@ pub fn spy_keys(file: &[u8], known: &[u8; ROW_LIMIT], event: Event) -> bool
     let Event::Notes(by, row) = event else {
         return false;
     };
-    let Some(d) = forms::spy_keys(file, row.0) else {
+    let Some(f) = forms::spy_keys(file, row.0) else {
         return false;
     };
-    by.0 == SPY && row_marked(known, d.m) && row_marked(known, d.na) && row_marked(known, d.nb)
+    by.0 == SPY && row_marked(known, f.secret) && row_marked(known, f.na) && row_marked(known, f.nb)
 }
 
 // Rule 3: CH with a fresh nonce.
