@@ -56,8 +56,7 @@ pub fn row_marked(rows: &[u8; ROW_LIMIT], r: u16) -> bool
 fn reach(file: &[u8]) -> u16
     ensures { Reaches file.now result }
 {
-    let n = trace::row_count(file);
-    if ROWS < n { ROWS } else { n }
+    trace::row_count(file).min(ROWS)
 }
 
 impl Known {
