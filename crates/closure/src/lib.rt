@@ -53,6 +53,7 @@ pub fn row_marked(rows: &[u8; ROW_LIMIT], r: u16) -> bool
 }
 
 // The rows that a pass looks at: one past the marks is never known, and a file that was read has none.
+#[tactic(auto, using(crate::proofs::Folds::reaches_min))]
 fn reach(file: &[u8]) -> u16
     ensures { Reaches file.now result }
 {
