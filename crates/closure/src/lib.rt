@@ -1,13 +1,13 @@
 // Closing: a row that is learnt is opened once, and a key that becomes known opens what waited for it.
 #![tactic(auto)]
 
-ghost use Rattle.std.specs.Prelude.{true, ◌≡◌, suc, length, set};
+ghost use Rattle.std.specs.Prelude.{true, ◌≡◌, suc, length};
 ghost use Rattle.trace.specs.File.{agent_limit, rows_of};
 ghost use Rattle.trace.specs.Events.{event_at};
 ghost use Rattle.closure.specs.Closure.{state_of, marked, row_marked, opens, below, learn_row, reopen_row, up_rows, down_rows, pass_rows, Reaches, see_row, see_event, start_keys, key_known, start_rows};
 
 use trace::limits::{AGENT_LIMIT, AGENTS, ROW_LIMIT, ROWS};
-use trace::{AgentNo, Event, EventNo, Row, RowNo};
+use trace::{AgentNo, Event, EventNo, Row, RowNo, put};
 
 // A public key and a private one for each agent.
 pub const KEYS: usize = 2 * AGENT_LIMIT;
@@ -35,15 +35,6 @@ fn marked(marks: &[u8], at: usize) -> bool
     ensures { result ≡ marked (length marks.now) marks.now at }
 {
     marks.get(at) == Some(&1)
-}
-
-// A place past the end changes nothing.
-pub fn put(marks: &mut [u8], at: usize, mark: u8)
-    ensures { marks.new ≡ set marks.old at mark }
-{
-    if at < marks.len() {
-        marks[at] = mark;
-    }
 }
 
 pub fn row_marked(rows: &[u8; ROW_LIMIT], r: u16) -> bool
