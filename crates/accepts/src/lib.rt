@@ -84,7 +84,7 @@ fn mark_event(file: &[u8], boxes: &Boxes, marks: &mut [u8; ROW_LIMIT], j: u16, r
         return;
     }
     if let Some(hash) = sealed(boxes, role, j) {
-        closure::put(marks, usize::from(hash), 1);
+        trace::put(marks, usize::from(hash), 1);
     }
 }
 

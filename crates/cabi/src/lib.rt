@@ -17,7 +17,7 @@ const REFUSED: u32 = 0x20000000;
 fn refusal_code(cause: Cause) -> u32
     ensures { result ≡ refusal_code cause }
 {
-    REFUSED + HALF * (trace::number(cause) as u32) + (trace::place(cause) as u32)
+    REFUSED + HALF * u32::from(trace::number(cause)) + u32::from(trace::place(cause))
 }
 
 fn verdict_code(verdict: Result<Verdict, Cause>) -> u32
@@ -25,8 +25,8 @@ fn verdict_code(verdict: Result<Verdict, Cause>) -> u32
 {
     match verdict {
         Err(cause) => refusal_code(cause),
-        Ok(Verdict::Illegal(n)) => ILLEGAL + (n as u32),
-        Ok(Verdict::Accepted(n)) => n as u32,
+        Ok(Verdict::Illegal(n)) => ILLEGAL + u32::from(n),
+        Ok(Verdict::Accepted(n)) => u32::from(n),
     }
 }
 

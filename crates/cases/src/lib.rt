@@ -4,6 +4,8 @@
 ghost use Rattle.std.specs.Prelude.{◌≡◌, ◌%◌, set};
 ghost use Rattle.cases.specs.Room.{sample_room, edited};
 
+use trace::put;
+
 pub mod print;
 
 pub const ROOM: usize = 256;
@@ -42,15 +44,6 @@ pub fn sample() -> [u8; ROOM]
     ensures { result ≡ sample_room }
 {
     SAMPLE
-}
-
-// A place past the file's end takes nothing.
-pub fn put(file: &mut [u8], at: usize, byte: u8)
-    ensures { file.new ≡ set file.old at byte }
-{
-    if at < file.len() {
-        file[at] = byte;
-    }
 }
 
 // The file after these changes, each a place and its new byte.

@@ -13,9 +13,11 @@ use Rattle.trace.specs.Kinds.{row_at}
 use Rattle.closure.specs.declared.Known.{Known}
 use Rattle.closure.specs.Closure.{zeros, key_room, see_event, known_after, State, state_of, know, up_rows, down_rows, pass_rows, settle, start_keys, key_known, mark_row, start_rows, reopens, reopen_row, Reaches}
 use mathlib.Core.Logic.{◌⊎◌, inl, inr}
-use borrow.Author.Tests.{le-ltb}
+use borrow.Author.Tests.{le-ltb, ltb-true, ltb-false}
 use Rattle.laws.proofs.Both.{or_none}
 use Rattle.laws.proofs.First.{bool_cases}
+use Rattle.std.specs.Prelude.{min, ltb}
+use Rattle.std.proofs.Math.Nat.{min-eq_left, min-eq_right}
 
 module _ (file : List ℕ) where
   pass_on : (n : ℕ) (rows keys : List ℕ) → (up_rows file n rows keys).fresh ≡ true →
@@ -71,13 +73,18 @@ module _ (file : List ℕ) where
       let q : suc (row_limit + k) ≡ row_limit + suc k = omega arith in
       pass_past k rs ks ∙ pass_suc (row_limit + k) (none_past (row_limit + k) (omega arith)) rs ks ∙ ap (λ (m : ℕ). pass_rows file m rs ks) q
 
-  pub reaches_all : (n : ℕ) → n ≡ rows_of file → Reaches file n
-  reaches_all n e rs ks = rw e refl
-
-  pub reaches_marks : (n : ℕ) → n ≡ rows_of file → row_limit < n → Reaches file row_limit
-  reaches_marks n e l rs ks =
-      let q : row_limit + (rows_of file - row_limit) ≡ rows_of file = omega (arith, e) in
-      pass_past (rows_of file - row_limit) rs ks ∙ ap (λ (m : ℕ). pass_rows file m rs ks) q
+  -- the rows behind the marks may be left out
+  pub reaches_min : Reaches file (min (rows_of file) row_limit)
+  reaches_min rs ks = go (bool_cases (ltb (rows_of file) row_limit))
+    where
+      go : (ltb (rows_of file) row_limit ≡ true) ⊎ (ltb (rows_of file) row_limit ≡ false) → pass_rows file (min (rows_of file) row_limit) rs ks ≡ pass_rows file (rows_of file) rs ks
+      go (inl t) =
+          let l = ltb-true (rows_of file) row_limit t in
+          rw (min-eq_left {n = rows_of file} {m = row_limit} (omega (arith, l))) refl
+      go (inr f) =
+          let l = ltb-false (rows_of file) row_limit f in
+          let q : row_limit + (rows_of file - row_limit) ≡ rows_of file = omega (arith, l) in
+          rw (min-eq_right {n = row_limit} {m = rows_of file} (omega (arith, l))) (pass_past (rows_of file - row_limit) rs ks ∙ ap (λ (m : ℕ). pass_rows file m rs ks) q)
 
   pub keys_more : (a : ℕ) (keys ks ks' : List ℕ) → ks ≡ start_keys file a keys →
       ks' ≡ choose (compromised_in file a) (know ks (agent_limit + a)) ks → ks' ≡ start_keys file (a + 1) keys

@@ -1,7 +1,7 @@
 // Closing: a row that is learnt is opened once, and a key that becomes known opens what waited for it.
 #![tactic(auto)]
 
-ghost use Rattle.std.specs.Prelude.{true, ◌≡◌, suc, length, set};
+ghost use Rattle.std.specs.Prelude.{true, ◌≡◌, suc, length};
 ghost use Rattle.trace.specs.File.{agent_limit, rows_of};
 ghost use Rattle.trace.specs.Events.{event_at};
 ghost use Rattle.trace.specs.Kinds.{row_at};
@@ -9,7 +9,7 @@ ghost use Rattle.closure.specs.Closure.{is_crypt, state_of, marked, row_marked, 
 
 use trace::limits::{AGENT_LIMIT, AGENTS, ROW_LIMIT, ROWS};
 use trace::rows::{Kind, kind_at};
-use trace::{AgentNo, Event, EventNo, Row, RowNo};
+use trace::{AgentNo, Event, EventNo, Row, RowNo, put};
 
 // A public key and a private one for each agent.
 pub const KEYS: usize = 2 * AGENT_LIMIT;
@@ -39,15 +39,6 @@ fn marked(marks: &[u8], at: usize) -> bool
     marks.get(at) == Some(&1)
 }
 
-// A place past the end changes nothing.
-pub fn put(marks: &mut [u8], at: usize, mark: u8)
-    ensures { marks.new ≡ set marks.old at mark }
-{
-    if at < marks.len() {
-        marks[at] = mark;
-    }
-}
-
 pub fn row_marked(rows: &[u8; ROW_LIMIT], r: u16) -> bool
     ensures { result ≡ row_marked rows.now r }
 {
@@ -55,11 +46,11 @@ pub fn row_marked(rows: &[u8; ROW_LIMIT], r: u16) -> bool
 }
 
 // The rows that a pass looks at: one past the marks is never known, and a file that was read has none.
+#[tactic(auto, using(crate::proofs::Folds::reaches_min))]
 fn reach(file: &[u8]) -> u16
     ensures { Reaches file.now result }
 {
-    let n = trace::row_count(file);
-    if ROWS < n { ROWS } else { n }
+    trace::row_count(file).min(ROWS)
 }
 
 // By one byte, since a pass asks it of each marked row.

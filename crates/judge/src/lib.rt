@@ -19,7 +19,7 @@ fn verdict_readable(file: &[u8], rules: &mut [u8]) -> Result<Verdict, Cause>
     ensures rules_after { rules.new ≡ rules_readable file.now rules.old }
 {
     let events = trace::event_count(file);
-    if rules.len() < events as usize {
+    if rules.len() < usize::from(events) {
         return Err(Cause::ShortBuffer);
     }
     walk::clear(rules, events);

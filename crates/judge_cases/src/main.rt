@@ -1,10 +1,10 @@
 // The verdict and the part at fault: the cases of document 01 beside the sample, and the refusals in their order.
 #![tactic(auto)]
 
-use cases::{print, put};
+use cases::print;
 use judge::reply::Verdict;
 use std::io;
-use trace::Cause;
+use trace::{Cause, put};
 
 // An event over the sample's rows: who says which row to whom, or who notes which.
 #[derive(Clone, Copy)]

@@ -45,7 +45,7 @@ pub fn make(file: &[u8], known: &[u8; ROW_LIMIT], made: &mut [u8; ROW_LIMIT], ro
             let both = make_below(file, known, made, row, left)
                 && make_below(file, known, made, row, right);
             if both {
-                made[row as usize] = 1;
+                made[usize::from(row)] = 1;
             }
             both
         }

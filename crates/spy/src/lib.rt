@@ -30,11 +30,11 @@ fn answer_readable(file: &[u8], n: usize, buffer: &mut [u8]) -> Result<(), Cause
     ensures buffer_after { buffer.new ≡ bytes_readable file.now n buffer.old }
 {
     let rows = trace::row_count(file);
-    if buffer.len() < rows as usize {
+    if buffer.len() < usize::from(rows) {
         return Err(Cause::ShortBuffer);
     }
     let events = trace::event_count(file);
-    if (events as usize) < n {
+    if usize::from(events) < n {
         return Err(Cause::TooManyEvents);
     }
     write(file, n as u16, buffer);

@@ -2,9 +2,9 @@
 ghost use Rattle.std.specs.Prelude.{◌≡◌};
 ghost use Rattle.spy.specs.Made.{made, makes, mark_of, write_marks};
 
-use closure::{put, row_marked};
+use closure::row_marked;
 use trace::limits::ROW_LIMIT;
-use trace::{Row, RowNo};
+use trace::{Row, RowNo, put};
 
 const ANALYSED: u8 = 2;
 

@@ -1,8 +1,8 @@
 // Writes the parts of a trace file into lent bytes; what lies past their end is left out.
 ghost use Rattle.std.specs.Prelude.{◌≡◌, ◌+◌, ◌*◌, ◌≤◌};
 
-use cases::put;
 use trace::limits::{ITEM, ROWS_AT};
+use trace::put;
 use trace::rows::Kind;
 
 fn put_word(file: &mut [u8], at: usize, value: u16) {

@@ -1,5 +1,5 @@
 // Bytes of the file. A byte past the end reads as 0, so a reader needs no bound.
-ghost use Rattle.std.specs.Prelude.{◌≡◌, ◌<◌, ℕ, List};
+ghost use Rattle.std.specs.Prelude.{◌≡◌, ◌<◌, ℕ, List, set};
 ghost use Rattle.trace.specs.File.{byte, word};
 ghost use Rattle.trace.specs.Items.{ItemAt};
 
@@ -9,6 +9,15 @@ pub fn byte_at(file: &[u8], at: usize) -> u8
     ensures { result ≡ byte file.now at }
 {
     file.get(at).map_or(0, |&b| b)
+}
+
+// A place past the end takes nothing.
+pub fn put(bytes: &mut [u8], at: usize, byte: u8)
+    ensures { bytes.new ≡ set bytes.old at byte }
+{
+    if at < bytes.len() {
+        bytes[at] = byte;
+    }
 }
 
 // Positions stay far below where the next one could wrap.

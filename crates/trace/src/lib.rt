@@ -17,6 +17,8 @@ ghost use Rattle.trace.specs.Part.{Part, nothing};
 ghost use Rattle.trace.specs.Kinds.{row_at};
 ghost use Rattle.trace.specs.Spans.{event_span, fault_of, within};
 
+pub use bytes::put;
+
 // Numbers of rows, events and agents are kept apart, and so are the values of Numbers and Nonces.
 #[derive(Clone, Copy, PartialEq, Eq, Debug)]
 pub struct RowNo(pub u16);

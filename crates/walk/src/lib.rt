@@ -9,10 +9,10 @@ ghost use Rattle.walk.specs.Lowest.{or_none, rule_of, exchange_of};
 ghost use Rattle.walk.specs.Pace.{pace, paced, Before};
 ghost use Rattle.walk.specs.Walk.{cleared, walkable, walk_file};
 
-use closure::{Known, NOTHING, put};
+use closure::{Known, NOTHING};
 use earlier::Boxes;
-use trace::EventNo;
 use trace::limits::{EVENTS, ROW_LIMIT};
+use trace::{EventNo, put};
 
 const SIX: u8 = 6;
 
