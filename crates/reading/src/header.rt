@@ -4,7 +4,8 @@ ghost use Rattle.trace.specs.Tests.{wrong_version, wrong_set, wrong_contents};
 
 use trace::AgentNo;
 use trace::header::Header;
-use trace::limits::{EVENTS, ITEM, ROWS, ROWS_AT};
+use trace::limits::{EVENTS, ROWS, ROWS_AT};
+use trace::places::{event_place, row_place};
 
 const VERSION: u16 = 1;
 
@@ -29,8 +30,8 @@ pub fn wrong_set(file: &[u8]) -> bool
 pub fn wrong_contents(h: Header, len: usize) -> bool
     ensures { result ≡ wrong_contents h len }
 {
-    let events_at = ROWS_AT + ITEM * usize::from(h.rows);
-    let end = events_at + ITEM * usize::from(h.events);
+    let events_at = row_place(h.rows);
+    let end = event_place(h.rows, h.events);
     (ROWS < h.rows)
         | (EVENTS < h.events)
         | (usize::from(h.rows_at) != ROWS_AT)

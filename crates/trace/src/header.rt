@@ -28,7 +28,7 @@ pub fn header_of(file: &[u8]) -> Header
         version: bytes::word_at(file, 0),
         reserved: bytes::word_at(file, 2),
         rows_at: bytes::word_at(file, 12),
-        rows: bytes::word_at(file, 14),
+        rows: rows_of(file),
         events_at: bytes::word_at(file, 16),
         events: bytes::word_at(file, 18),
     }

@@ -7,6 +7,7 @@ pub mod events;
 pub mod header;
 pub mod limits;
 mod parts;
+pub mod places;
 pub mod rows;
 
 ghost use Rattle.std.specs.Prelude.{◌≡◌};
