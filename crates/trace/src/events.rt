@@ -3,7 +3,7 @@ ghost use Rattle.std.specs.Prelude.{◌≡◌};
 ghost use Rattle.trace.specs.Events.{parts_at, event_of};
 ghost use Rattle.trace.specs.Items.{parts_of};
 
-use super::header::rows_of;
+use super::header::row_count;
 use super::limits::ITEM;
 use super::places::event_place;
 use super::{AgentNo, Event, RowNo, bytes};
@@ -39,7 +39,7 @@ fn parts_of(item: [u8; ITEM]) -> Parts
 pub fn parts_at(file: &[u8], e: u16) -> Parts
     ensures { result ≡ parts_at file.now e }
 {
-    bytes::read_item(file, event_place(rows_of(file), e), parts_of)
+    bytes::read_item(file, event_place(row_count(file), e), parts_of)
 }
 
 pub(crate) fn event_of(p: Parts) -> Event

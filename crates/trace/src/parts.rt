@@ -4,11 +4,12 @@ ghost use Rattle.trace.specs.Items.{far};
 ghost use Rattle.trace.specs.Part.{nothing};
 ghost use Rattle.trace.specs.Spans.{eight_at, row_span, event_span};
 
-use super::Span;
-use super::header::rows_of;
+use super::header::row_count;
 use super::limits::ITEM;
 use super::places::{event_place, row_place};
+use super::{EventNo, RowNo, Span};
 
+// The empty part that starts at byte 0.
 pub fn no_span() -> Span
     ensures { result ≡ nothing }
 {
@@ -29,16 +30,17 @@ fn eight_at(file: &[u8], at: usize) -> Span
     }
 }
 
-pub fn row_span(file: &[u8], r: u16) -> Span
-    ensures { result ≡ row_span file.now r }
+pub fn row_span(file: &[u8], r: RowNo) -> Span
+    ensures { result ≡ row_span file.now r.0 }
 {
-    eight_at(file, row_place(r))
+    eight_at(file, row_place(r.0))
 }
 
-pub fn event_span(file: &[u8], e: u16) -> Span
-    ensures { result ≡ event_span file.now e }
+// The eight bytes of an event, or the empty part where the file is too short for it.
+pub fn event_span(file: &[u8], e: EventNo) -> Span
+    ensures { result ≡ event_span file.now e.0 }
 {
-    eight_at(file, event_place(rows_of(file), e))
+    eight_at(file, event_place(row_count(file), e.0))
 }
 
 // Whether a file of len bytes is long enough; the sum of start and size could wrap.
