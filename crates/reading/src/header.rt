@@ -2,18 +2,14 @@
 ghost use Rattle.std.specs.Prelude.{◌≡◌};
 ghost use Rattle.trace.specs.Tests.{wrong_version, wrong_set, wrong_contents};
 
-use trace::AgentNo;
 use trace::header::Header;
 use trace::limits::{EVENTS, ROWS, ROWS_AT};
 use trace::places::{event_place, row_place};
+use trace::{AUTHORITY, SPY};
 
 const VERSION: u16 = 1;
 
 const RESERVED: u16 = 0;
-
-const SPY: AgentNo = AgentNo(0);
-
-const AUTHORITY: AgentNo = AgentNo(1);
 
 pub fn wrong_version(h: Header) -> bool
     ensures { result ≡ wrong_version h }

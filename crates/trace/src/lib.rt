@@ -32,6 +32,11 @@ pub struct EventNo(pub u16);
 #[derive(Clone, Copy, PartialEq, Eq, Debug)]
 pub struct AgentNo(pub u16);
 
+pub const SPY: AgentNo = AgentNo(0);
+
+// Document 01: agent 1 signs certificates.
+pub const AUTHORITY: AgentNo = AgentNo(1);
+
 #[derive(Clone, Copy, PartialEq, Eq, Debug)]
 pub struct NumberValue(pub u16);
 
