@@ -8,10 +8,7 @@ ghost use Rattle.std.specs.Prelude.{◌≡◌};
 ghost use Rattle.forms.specs.Kinds.{server_in};
 ghost use Rattle.forms.specs.Forms.{hello_of, reply_of, kept_of, signed_of, remembered_of, agreement_of, sealed_of, under_key, derived_of, verified_of};
 
-use trace::Role;
-
-// Document 01: agent 1 signs certificates.
-const AUTHORITY: u16 = 1;
+use trace::{AUTHORITY, Role};
 
 #[derive(Clone, Copy, PartialEq, Eq, Debug)]
 pub struct Hello {
@@ -127,7 +124,7 @@ pub fn certificate(file: &[u8], r: u16) -> Option<Signed>
     let signer = leaves::private_of(file, c.key)?;
     let (agent, key) = leaves::pair_of(file, c.body)?;
     let agent = leaves::agent_of(file, agent)?;
-    let fits = signer == AUTHORITY && leaves::is_key(file, key);
+    let fits = signer == AUTHORITY.0 && leaves::is_key(file, key);
     fits.then_some(Signed { agent, key })
 }
 

@@ -2,17 +2,14 @@
 ghost use Rattle.std.specs.Prelude.{◌≡◌};
 ghost use Rattle.trace.specs.Tests.{wrong_version, wrong_set, wrong_contents};
 
-use trace::AgentNo;
 use trace::header::Header;
-use trace::limits::{EVENTS, ITEM, ROWS, ROWS_AT};
+use trace::limits::{EVENTS, ROWS, ROWS_AT};
+use trace::places::{event_place, row_place};
+use trace::{AUTHORITY, SPY};
 
 const VERSION: u16 = 1;
 
 const RESERVED: u16 = 0;
-
-const SPY: AgentNo = AgentNo(0);
-
-const AUTHORITY: AgentNo = AgentNo(1);
 
 pub fn wrong_version(h: Header) -> bool
     ensures { result ≡ wrong_version h }
@@ -29,8 +26,8 @@ pub fn wrong_set(file: &[u8]) -> bool
 pub fn wrong_contents(h: Header, len: usize) -> bool
     ensures { result ≡ wrong_contents h len }
 {
-    let events_at = ROWS_AT + ITEM * usize::from(h.rows);
-    let end = events_at + ITEM * usize::from(h.events);
+    let events_at = row_place(h.rows);
+    let end = event_place(h.rows, h.events);
     (ROWS < h.rows)
         | (EVENTS < h.events)
         | (usize::from(h.rows_at) != ROWS_AT)

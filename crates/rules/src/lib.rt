@@ -12,10 +12,8 @@ ghost use Rattle.rules.specs.Making.{told, try_fake};
 
 use closure::row_marked;
 use earlier::{Boxes, Wanted};
-use trace::Event;
 use trace::limits::ROW_LIMIT;
-
-const SPY: u16 = 0;
+use trace::{Event, SPY};
 
 // Whether a row is a plain nonce that no event before used.
 fn is_fresh(file: &[u8], used: &[u8; ROW_LIMIT], r: u16) -> bool
@@ -33,7 +31,7 @@ pub fn fake(file: &[u8], known: &[u8; ROW_LIMIT], made: &mut [u8; ROW_LIMIT], ev
     let Event::Says(from, _, row) = event else {
         return false;
     };
-    from.0 == SPY && synth::make(file, known, made, row.0)
+    from == SPY && synth::make(file, known, made, row.0)
 }
 
 // Rule 2: the spy notes keys of nonces that it knows.
@@ -47,7 +45,7 @@ pub fn spy_keys(file: &[u8], known: &[u8; ROW_LIMIT], event: Event) -> bool
     let Some(f) = forms::spy_keys(file, row.0) else {
         return false;
     };
-    by.0 == SPY && row_marked(known, f.secret) && row_marked(known, f.na) && row_marked(known, f.nb)
+    by == SPY && row_marked(known, f.secret) && row_marked(known, f.na) && row_marked(known, f.nb)
 }
 
 // Rule 3: CH with a fresh nonce.
@@ -144,7 +142,7 @@ pub fn oops(file: &[u8], boxes: &Boxes, event: Event) -> bool
     let Event::Says(from, to, row) = event else {
         return false;
     };
-    to.0 == SPY
+    to == SPY
         && forms::leaves::session_of(file, row.0).is_some()
         && earlier::happened(file, boxes, Wanted::Under(from.0, row.0))
 }

@@ -5,6 +5,10 @@ use Rattle.trace.specs.File.{byte, word}
 use Rattle.trace.specs.declared.rows.Fields.{Fields}
 use Rattle.trace.specs.declared.events.Parts.{Parts}
 
+-- above every place of a row or an event, and far below where the next place could wrap
+abbrev pub far : ℕ
+far = 2000000
+
 -- the item that begins there
 abbrev pub ItemAt : List ℕ → ℕ → List ℕ → Type 0
 ItemAt file at item = (k : ℕ) → k < 8 → get_or item k 0 ≡ byte file (at + k)

@@ -1,7 +1,7 @@
 // Bytes of the file. A byte past the end reads as 0, so a reader needs no bound.
 ghost use Rattle.std.specs.Prelude.{◌≡◌, ◌<◌, ℕ, List, set};
 ghost use Rattle.trace.specs.File.{byte, word};
-ghost use Rattle.trace.specs.Items.{ItemAt};
+ghost use Rattle.trace.specs.Items.{ItemAt, far};
 
 use super::limits::ITEM;
 
@@ -23,7 +23,7 @@ pub fn put(bytes: &mut [u8], at: usize, byte: u8)
 // Positions stay far below where the next one could wrap.
 #[tactic(auto, unfolding(crate::specs::File::word))]
 pub fn word_at(file: &[u8], at: usize) -> u16
-    requires { at < 2000000 }
+    requires { at < far }
     ensures { result ≡ word file.now at }
 {
     u16::from_le_bytes([byte_at(file, at), byte_at(file, at + 1)])
@@ -31,7 +31,7 @@ pub fn word_at(file: &[u8], at: usize) -> u16
 
 // The eight bytes of a row or an event that the file ends before, or in.
 fn padded(file: &[u8], at: usize) -> [u8; ITEM]
-    requires { at < 2000000 }
+    requires { at < far }
     ensures { ItemAt file.now at result }
 {
     let mut item = [0; ITEM];
@@ -43,7 +43,7 @@ fn padded(file: &[u8], at: usize) -> [u8; ITEM]
 
 // What is read from the eight bytes of a row or an event. One test of the bound serves all of them: these are read most often.
 pub fn read_item<T, F: FnOnce([u8; ITEM]) -> T>(file: &[u8], at: usize, read: F) -> T
-    requires in_range { at < 2000000 }
+    requires in_range { at < far }
     requires callable { F.IsAlwaysCallable read }
     ensures { (item : List ℕ) × ItemAt file.now at item × F.post read item result }
 {

@@ -3,8 +3,9 @@ ghost use Rattle.std.specs.Prelude.{◌≡◌};
 ghost use Rattle.trace.specs.Events.{parts_at, event_of};
 ghost use Rattle.trace.specs.Items.{parts_of};
 
-use super::header::rows_of;
-use super::limits::{ITEM, ROWS_AT};
+use super::header::row_count;
+use super::limits::ITEM;
+use super::places::event_place;
 use super::{AgentNo, Event, RowNo, bytes};
 
 #[derive(Clone, Copy, PartialEq, Eq, Debug)]
@@ -38,8 +39,7 @@ fn parts_of(item: [u8; ITEM]) -> Parts
 pub fn parts_at(file: &[u8], e: u16) -> Parts
     ensures { result ≡ parts_at file.now e }
 {
-    let at = ROWS_AT + ITEM * usize::from(rows_of(file)) + ITEM * usize::from(e);
-    bytes::read_item(file, at, parts_of)
+    bytes::read_item(file, event_place(row_count(file), e), parts_of)
 }
 
 pub(crate) fn event_of(p: Parts) -> Event

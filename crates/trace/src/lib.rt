@@ -7,17 +7,20 @@ pub mod events;
 pub mod header;
 pub mod limits;
 mod parts;
+pub mod places;
 pub mod rows;
 
 ghost use Rattle.std.specs.Prelude.{◌≡◌};
-ghost use Rattle.trace.specs.File.{rows_of, events_of, compromised_in};
+ghost use Rattle.trace.specs.File.{events_of};
 ghost use Rattle.trace.specs.Events.{event_at};
 ghost use Rattle.trace.specs.Refusal.{number_of, place_of};
-ghost use Rattle.trace.specs.Part.{Part, nothing};
+ghost use Rattle.trace.specs.Part.{Part};
 ghost use Rattle.trace.specs.Kinds.{row_at};
-ghost use Rattle.trace.specs.Spans.{event_span, fault_of, within};
+ghost use Rattle.trace.specs.Spans.{fault_of, within};
 
 pub use bytes::put;
+pub use header::{compromised, row_count};
+pub use parts::{event_span, no_span};
 
 // Numbers of rows, events and agents are kept apart, and so are the values of Numbers and Nonces.
 #[derive(Clone, Copy, PartialEq, Eq, Debug)]
@@ -28,6 +31,11 @@ pub struct EventNo(pub u16);
 
 #[derive(Clone, Copy, PartialEq, Eq, Debug)]
 pub struct AgentNo(pub u16);
+
+pub const SPY: AgentNo = AgentNo(0);
+
+// Document 01: agent 1 signs certificates.
+pub const AUTHORITY: AgentNo = AgentNo(1);
 
 #[derive(Clone, Copy, PartialEq, Eq, Debug)]
 pub struct NumberValue(pub u16);
@@ -110,23 +118,10 @@ pub fn place(cause: Cause) -> u16
     }
 }
 
-pub fn row_count(file: &[u8]) -> u16
-    ensures { result ≡ rows_of file.now }
-{
-    header::rows_of(file)
-}
-
 pub fn event_count(file: &[u8]) -> u16
     ensures { result ≡ events_of file.now }
 {
     header::header_of(file).events
-}
-
-// Whether the agent is in the file's compromised set.
-pub fn compromised(file: &[u8], a: AgentNo) -> bool
-    ensures { result ≡ compromised_in file.now a.0 }
-{
-    header::compromised(file, a.0)
 }
 
 // Read in place, since most who ask for a row ask for one kind.
@@ -144,27 +139,13 @@ pub fn event_at(file: &[u8], e: EventNo) -> Event
     events::event_of(events::parts_at(file, e.0))
 }
 
-// The empty part that starts at byte 0.
-pub fn no_span() -> Span
-    ensures { result ≡ nothing }
-{
-    parts::no_span()
-}
-
-// The eight bytes of an event, or the empty part where the file is too short for it.
-pub fn event_span(file: &[u8], e: EventNo) -> Span
-    ensures { result ≡ event_span file.now e.0 }
-{
-    parts::event_span(file, e.0)
-}
-
 // The eight bytes that a refusal names, or the empty part.
 pub fn span_at_fault(file: &[u8], cause: Cause) -> Span
     ensures { result ≡ fault_of file.now cause }
 {
     match cause {
-        Cause::BadRow(r) | Cause::RepeatedRow(r) => parts::row_span(file, r.0),
-        Cause::BadEvent(e) => parts::event_span(file, e.0),
+        Cause::BadRow(r) | Cause::RepeatedRow(r) => parts::row_span(file, r),
+        Cause::BadEvent(e) => event_span(file, e),
         _ => no_span(),
     }
 }

@@ -1,12 +1,15 @@
 // Where parts of the lent file lie: the eight bytes of a row or an event.
 ghost use Rattle.std.specs.Prelude.{◌+◌, ◌<◌, ◌≡◌, leb};
+ghost use Rattle.trace.specs.Items.{far};
 ghost use Rattle.trace.specs.Part.{nothing};
 ghost use Rattle.trace.specs.Spans.{eight_at, row_span, event_span};
 
-use super::Span;
-use super::header::rows_of;
-use super::limits::{ITEM, ROWS_AT};
+use super::header::row_count;
+use super::limits::ITEM;
+use super::places::{event_place, row_place};
+use super::{EventNo, RowNo, Span};
 
+// The empty part that starts at byte 0.
 pub fn no_span() -> Span
     ensures { result ≡ nothing }
 {
@@ -14,7 +17,7 @@ pub fn no_span() -> Span
 }
 
 fn eight_at(file: &[u8], at: usize) -> Span
-    requires { at < 2000000 }
+    requires { at < far }
     ensures { result ≡ eight_at file.now at }
 {
     if at + ITEM <= file.len() {
@@ -27,20 +30,17 @@ fn eight_at(file: &[u8], at: usize) -> Span
     }
 }
 
-pub fn row_span(file: &[u8], r: u16) -> Span
-    ensures { result ≡ row_span file.now r }
+pub fn row_span(file: &[u8], r: RowNo) -> Span
+    ensures { result ≡ row_span file.now r.0 }
 {
-    eight_at(file, ROWS_AT + ITEM * usize::from(r))
+    eight_at(file, row_place(r.0))
 }
 
-pub fn event_span(file: &[u8], e: u16) -> Span
-    ensures { result ≡ event_span file.now e }
+// The eight bytes of an event, or the empty part where the file is too short for it.
+pub fn event_span(file: &[u8], e: EventNo) -> Span
+    ensures { result ≡ event_span file.now e.0 }
 {
-    let rows = rows_of(file);
-    eight_at(
-        file,
-        ROWS_AT + ITEM * usize::from(rows) + ITEM * usize::from(e),
-    )
+    eight_at(file, event_place(row_count(file), e.0))
 }
 
 // Whether a file of len bytes is long enough; the sum of start and size could wrap.

@@ -4,7 +4,8 @@ ghost use Rattle.trace.specs.Rows.{fields_at, kind_at};
 ghost use Rattle.trace.specs.Items.{fields_of};
 ghost use Rattle.trace.specs.Kinds.{Decodes, role_of, row_of};
 
-use super::limits::{ITEM, ROWS_AT};
+use super::limits::ITEM;
+use super::places::row_place;
 use super::{AgentNo, NonceValue, NumberValue, Role, Row, RowNo, bytes};
 
 // The kinds of a row, in the order of their numbers.
@@ -76,13 +77,13 @@ fn fields_of(item: [u8; ITEM]) -> Fields
 pub fn fields_at(file: &[u8], r: u16) -> Fields
     ensures { result ≡ fields_at file.now r }
 {
-    bytes::read_item(file, ROWS_AT + ITEM * usize::from(r), fields_of)
+    bytes::read_item(file, row_place(r), fields_of)
 }
 
 pub fn kind_at(file: &[u8], r: u16) -> Result<Kind, UnknownKind>
     ensures { Decodes (kind_at file.now r) result }
 {
-    Kind::try_from(bytes::byte_at(file, ROWS_AT + ITEM * usize::from(r)))
+    Kind::try_from(bytes::byte_at(file, row_place(r)))
 }
 
 fn role_of(role: u8) -> Role
