@@ -11,7 +11,10 @@ use Rattle.forms.specs.declared.leaves.Prf.{Prf}
 use Rattle.forms.specs.declared.Remembered.{Remembered}
 use Rattle.earlier.specs.Heard.{Heard}
 use Rattle.earlier.specs.declared.Wanted.{Wanted}
-use Rattle.earlier.specs.declared.Wanted.TheVariants.{Secret, Sent}
+use Rattle.earlier.specs.declared.Wanted.TheVariants.{Said, Noted}
+use Rattle.earlier.specs.declared.Who.TheVariants.{To}
+use Rattle.earlier.specs.declared.What.TheVariants as what
+use Rattle.earlier.specs.declared.Note.TheVariants as note
 use Rattle.earlier.specs.Earlier.{heard_at, said_by, said_to}
 use Rattle.accepts.specs.declared.Session.{Session}
 use Rattle.accepts.specs.declared.Side.{Side}
@@ -56,12 +59,12 @@ unfoldable pub client_accepts : List ℕ → (Wanted → Bool) → (Side → Ses
 client_accepts file find both h =
     not h.says && is_some_and (remembered_of file h.row) (λ n.
     is_some_and (prf_of file n.m) (λ p.
-    eqb n.a h.from && find (Secret h.from n.b p.secret) &&
+    eqb n.a h.from && find (Noted h.from (note.Secret n.b p.secret)) &&
     both (side_of Client n.a n.b) (session_noted n p)))
 
 unfoldable pub server_accepts : List ℕ → (Wanted → Bool) → (Side → Session → Bool) → Heard → Bool
 server_accepts file find both h =
     not h.says && is_some_and (remembered_of file h.row) (λ n.
     is_some_and (prf_of file n.m) (λ p.
-    eqb n.b h.from && not (eqb n.a n.b) && find (Sent h.from p.secret) &&
+    eqb n.b h.from && not (eqb n.a n.b) && find (Said (To h.from) (what.Sent h.from p.secret)) &&
     both (side_of Server n.b n.a) (session_noted n p)))

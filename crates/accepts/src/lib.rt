@@ -10,7 +10,7 @@ ghost use Rattle.accepts.specs.Tests.{said_finished, told_finished, client_accep
 ghost use Rattle.accepts.specs.Hashes.{mark_event, mark_all, answered_in, agreed_in, both_in};
 
 use earlier::boxes::{events_to, sealed};
-use earlier::{Boxes, Wanted};
+use earlier::{Boxes, Note, Wanted, What, Who};
 use trace::limits::{ROW_LIMIT, ROWS};
 use trace::{Event, EventNo, Role};
 
@@ -203,7 +203,7 @@ pub fn client_accepts(file: &[u8], boxes: &Boxes, e: u16, event: Event) -> bool
         to: s.b,
     };
     s.a == by.0
-        && earlier::happened(file, boxes, Wanted::Secret(by.0, s.b, secret))
+        && earlier::happened(file, boxes, Wanted::Noted(by.0, Note::Secret(s.b, secret)))
         && both_finished(file, boxes, e, client, s)
 }
 
@@ -225,6 +225,6 @@ pub fn server_accepts(file: &[u8], boxes: &Boxes, e: u16, event: Event) -> bool
         to: s.a,
     };
     let fits = s.b == by.0 && s.a != s.b;
-    fits && earlier::happened(file, boxes, Wanted::Sent(by.0, secret))
-        && both_finished(file, boxes, e, server, s)
+    let sent = Wanted::Said(Who::To(by.0), What::Sent(by.0, secret));
+    fits && earlier::happened(file, boxes, sent) && both_finished(file, boxes, e, server, s)
 }

@@ -173,7 +173,8 @@ impl Known {
         ensures { state_of self.new.rows self.new.keys result ≡
             reopen_row file.now self.old.rows self.old.keys r }
     {
-        if !row_marked(&self.rows, r) || !is_crypt(file, r) {
+        let again = row_marked(&self.rows, r) & is_crypt(file, r);
+        if !again {
             return false;
         }
         let Row::Crypt(k, body) = trace::row_at(file, RowNo(r)) else {

@@ -18,7 +18,8 @@ use Rattle.laws.proofs.Both.{both, both3, refuted}
 use Rattle.earlier.specs.Heard.{Heard}
 use Rattle.earlier.specs.declared.boxes.Boxes.{Boxes}
 use Rattle.earlier.specs.declared.Wanted.{Wanted}
-use Rattle.earlier.specs.declared.Wanted.TheVariants.{HelloFor, HelloBy, HelloTo, ReplyWith, ReplyTo, ReplyBy, Cert, Secret, Sent, Session, Under}
+use Rattle.earlier.specs.declared.Wanted.TheVariants.{Said, Noted}
+use Rattle.earlier.specs.declared.Who.TheVariants.{To, By, From}
 use Rattle.earlier.specs.Earlier.{heard_at, said_to, said_by, noted_by, fits_in, earlier, past}
 use Rattle.earlier.specs.Cards.{card_of, fits_card, fits_agents}
 use Rattle.earlier.specs.Boxes.{notes_at, box_count, box_of, box_for, chain_from, some, card_at, fits_at, found_in, found}
@@ -74,17 +75,10 @@ noted_near a = let m : a % agent_limit < agent_limit = mod-lt a (omega arith) in
 
 fits_box : (file : List ℕ) (wanted : Wanted) → FitsBox file wanted (box_for wanted)
 unfolding FitsBox
-fits_box file (HelloFor to agent sid) = (near to, λ h t. said_box h to (both (said_to h to) _ t).0)
-fits_box file (HelloBy from to na sid pa) = (near to, λ h t. by_box h from to (both (said_by h from to) _ t).0)
-fits_box file (HelloTo to agent na sid pa) = (near to, λ h t. said_box h to (both (said_to h to) _ t).0)
-fits_box file (ReplyWith to nb) = (near to, λ h t. said_box h to (both (said_to h to) _ t).0)
-fits_box file (ReplyTo to nb sid pb) = (near to, λ h t. said_box h to (both (said_to h to) _ t).0)
-fits_box file (ReplyBy from to nb sid pb) = (near to, λ h t. by_box h from to (both (said_by h from to) _ t).0)
-fits_box file (Cert to agent key) = (near to, λ h t. said_box h to (both (said_to h to) _ t).0)
-fits_box file (Secret from agent secret) = (noted_near from, λ h t. noted_box h from (both (noted_by h from) _ t).0)
-fits_box file (Sent to secret) = (near to, λ h t. said_box h to (both (said_to h to) _ t).0)
-fits_box file (Session from sid a b m) = (noted_near from, λ h t. noted_box h from (both (noted_by h from) _ t).0)
-fits_box file (Under from key) = λ h t. (both h.says (eqb h.from from) (both (h.says && eqb h.from from) _ t).0).0
+fits_box file (Said (To to) w) = (near to, λ h t. said_box h to (both (said_to h to) _ t).0)
+fits_box file (Said (By from to) w) = (near to, λ h t. by_box h from to (both (said_by h from to) _ t).0)
+fits_box file (Said (From from) w) = λ h t. (both h.says (eqb h.from from) (both (h.says && eqb h.from from) _ t).0).0
+fits_box file (Noted from n) = (noted_near from, λ h t. noted_box h from (both (noted_by h from) _ t).0)
 
 -- the boxes of what is said have all that was said
 any_box : (file : List ℕ) (boxes : Boxes) (e : ℕ) → Linked file boxes e → (p : Heard → Bool) → ((h : Heard) → p h ≡ true → h.says ≡ true) →

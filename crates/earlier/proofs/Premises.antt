@@ -18,7 +18,10 @@ use Rattle.laws.proofs.Options.{is_some_and_true}
 use Rattle.forms.specs.Shapes.{RowHolds}
 use Rattle.forms.proofs.Shaped.{shapes}
 use Rattle.earlier.specs.declared.Wanted.{Wanted}
-use Rattle.earlier.specs.declared.Wanted.TheVariants.{HelloFor, HelloBy, HelloTo, ReplyWith, ReplyTo, ReplyBy, Cert, Secret, Sent, Session, Under}
+use Rattle.earlier.specs.declared.Wanted.TheVariants.{Said, Noted}
+use Rattle.earlier.specs.declared.Who.TheVariants.{To, By, From}
+use Rattle.earlier.specs.declared.What.TheVariants as what
+use Rattle.earlier.specs.declared.Note.TheVariants as note
 use Rattle.earlier.specs.Earlier.{heard_at, said_to, said_by, noted_by, is_hello, is_reply, fits_in, earlier}
 use Rattle.earlier.proofs.Meant.{to_sound, by_sound, noted_sound, said_told, noted_told, row_in, from_sound}
 
@@ -132,10 +135,10 @@ module _ (file : List ℕ) (P : Promised file) (e : ℕ) (le : e ≤ events_of f
   unfolding earlier
   some w j l t = any_some (λ j. fits_in file w (heard_at file j)) e j l t
 
-  pub hello_for_sound : (to agent sid : ℕ) {SID : ℕ} → earlier file (HelloFor to agent sid) e ≡ true → RowHolds file sid (paper.Number SID) →
+  pub hello_for_sound : (to agent sid : ℕ) {SID : ℕ} → earlier file (Said (To to) (what.HelloFor agent sid)) e ≡ true → RowHolds file sid (paper.Number SID) →
       (A : paper.agent) × (Na : paper.nonce) × (Pa : ℕ) × In (Says A to (CH agent Na SID Pa)) (beginning file e)
   hello_for_sound to agent sid {SID} t hs =
-      let (j, l, f) = found (HelloFor to agent sid) t in
+      let (j, l, f) = found (Said (To to) (what.HelloFor agent sid)) t in
       let b = both (said_to (heard_at file j) to) _ f in
       let (m, h, g) = is_some_and_true b.1 in
       let c = both (eqb m.agent agent) (eqb m.sid sid) g in
@@ -148,18 +151,18 @@ module _ (file : List ℕ) (P : Promised file) (e : ℕ) (le : e ≤ events_of f
 
   pub hello_for_complete : (to agent sid : ℕ) {A : paper.agent} {Na : paper.nonce} {SID Pa : ℕ} →
       In (Says A to (CH agent Na SID Pa)) (beginning file e) → RowHolds file sid (paper.Number SID) →
-      earlier file (HelloFor to agent sid) e ≡ true
+      earlier file (Said (To to) (what.HelloFor agent sid)) e ≡ true
   hello_for_complete to agent sid i hs =
       let t = said_told file P e le i in
       let (m, x) = (shapes file P).hello_complete (heard_at file t.at).row t.row t.meant in
-      some (HelloFor to agent sid) t.at t.before
+      some (Said (To to) (what.HelloFor agent sid)) t.at t.before
       (rw (t.to, x.found, eq-eqb m.agent agent x.agent, one_row file P m.sid sid x.sid hs) refl)
 
-  pub hello_by_sound : (from to na sid pa : ℕ) {Na : paper.nonce} {SID Pa : ℕ} → earlier file (HelloBy from to na sid pa) e ≡ true →
+  pub hello_by_sound : (from to na sid pa : ℕ) {Na : paper.nonce} {SID Pa : ℕ} → earlier file (Said (By from to) (what.Hello (record { agent = from; na = na; sid = sid; pa = pa }))) e ≡ true →
       RowHolds file na (paper.Nonce Na) → RowHolds file sid (paper.Number SID) → RowHolds file pa (paper.Number Pa) →
       In (Says from to (CH from Na SID Pa)) (beginning file e)
   hello_by_sound from to na sid pa t hn hs hp =
-      let f = found (HelloBy from to na sid pa) t in
+      let f = found (Said (By from to) (what.Hello (record { agent = from; na = na; sid = sid; pa = pa }))) t in
       let r = (heard_at file f.0).row in
       let b = both (said_by (heard_at file f.0) from to) (is_hello file r from na sid pa) f.2 in
       by_sound file P e le f.0 from to f.1 b.0
@@ -167,17 +170,17 @@ module _ (file : List ℕ) (P : Promised file) (e : ℕ) (le : e ≤ events_of f
 
   pub hello_by_complete : (from to na sid pa : ℕ) {Na : paper.nonce} {SID Pa : ℕ} →
       In (Says from to (CH from Na SID Pa)) (beginning file e) → RowHolds file na (paper.Nonce Na) →
-      RowHolds file sid (paper.Number SID) → RowHolds file pa (paper.Number Pa) → earlier file (HelloBy from to na sid pa) e ≡ true
+      RowHolds file sid (paper.Number SID) → RowHolds file pa (paper.Number Pa) → earlier file (Said (By from to) (what.Hello (record { agent = from; na = na; sid = sid; pa = pa }))) e ≡ true
   hello_by_complete from to na sid pa i hn hs hp =
       let t = said_told file P e le i in
-      some (HelloBy from to na sid pa) t.at t.before
+      some (Said (By from to) (what.Hello (record { agent = from; na = na; sid = sid; pa = pa }))) t.at t.before
       (rw (t.by, is_hello_lem file P (heard_at file t.at).row from na sid pa t.row t.meant hn hs hp) refl)
 
-  pub hello_to_sound : (to agent na sid pa : ℕ) {Na : paper.nonce} {SID Pa : ℕ} → earlier file (HelloTo to agent na sid pa) e ≡ true →
+  pub hello_to_sound : (to agent na sid pa : ℕ) {Na : paper.nonce} {SID Pa : ℕ} → earlier file (Said (To to) (what.Hello (record { agent = agent; na = na; sid = sid; pa = pa }))) e ≡ true →
       RowHolds file na (paper.Nonce Na) → RowHolds file sid (paper.Number SID) → RowHolds file pa (paper.Number Pa) →
       (A : paper.agent) × In (Says A to (CH agent Na SID Pa)) (beginning file e)
   hello_to_sound to agent na sid pa t hn hs hp =
-      let f = found (HelloTo to agent na sid pa) t in
+      let f = found (Said (To to) (what.Hello (record { agent = agent; na = na; sid = sid; pa = pa }))) t in
       let r = (heard_at file f.0).row in
       let b = both (said_to (heard_at file f.0) to) (is_hello file r agent na sid pa) f.2 in
       to_sound file P e le f.0 to f.1 b.0
@@ -185,16 +188,16 @@ module _ (file : List ℕ) (P : Promised file) (e : ℕ) (le : e ≤ events_of f
 
   pub hello_to_complete : (to agent na sid pa : ℕ) {A : paper.agent} {Na : paper.nonce} {SID Pa : ℕ} →
       In (Says A to (CH agent Na SID Pa)) (beginning file e) → RowHolds file na (paper.Nonce Na) →
-      RowHolds file sid (paper.Number SID) → RowHolds file pa (paper.Number Pa) → earlier file (HelloTo to agent na sid pa) e ≡ true
+      RowHolds file sid (paper.Number SID) → RowHolds file pa (paper.Number Pa) → earlier file (Said (To to) (what.Hello (record { agent = agent; na = na; sid = sid; pa = pa }))) e ≡ true
   hello_to_complete to agent na sid pa i hn hs hp =
       let t = said_told file P e le i in
-      some (HelloTo to agent na sid pa) t.at t.before
+      some (Said (To to) (what.Hello (record { agent = agent; na = na; sid = sid; pa = pa }))) t.at t.before
       (rw (t.to, is_hello_lem file P (heard_at file t.at).row agent na sid pa t.row t.meant hn hs hp) refl)
 
-  pub reply_with_sound : (to nb : ℕ) {Nb : paper.nonce} → earlier file (ReplyWith to nb) e ≡ true → RowHolds file nb (paper.Nonce Nb) →
+  pub reply_with_sound : (to nb : ℕ) {Nb : paper.nonce} → earlier file (Said (To to) (what.ReplyWith nb)) e ≡ true → RowHolds file nb (paper.Nonce Nb) →
       (B : paper.agent) × (SID : ℕ) × (Pb : ℕ) × In (Says B to (SH Nb SID Pb)) (beginning file e)
   reply_with_sound to nb {Nb} t hn =
-      let (j, l, f) = found (ReplyWith to nb) t in
+      let (j, l, f) = found (Said (To to) (what.ReplyWith nb)) t in
       let b = both (said_to (heard_at file j) to) _ f in
       let (m, h, c) = is_some_and_true b.1 in
       let (_, SID, Pb, x) = (shapes file P).reply_sound (heard_at file j).row (row_in file P e le j l) h in
@@ -203,50 +206,50 @@ module _ (file : List ℕ) (P : Promised file) (e : ℕ) (le : e ≤ events_of f
       (s.0, SID, Pb, s.1)
 
   pub reply_with_complete : (to nb : ℕ) {B : paper.agent} {Nb : paper.nonce} {SID Pb : ℕ} → In (Says B to (SH Nb SID Pb)) (beginning file e) →
-      RowHolds file nb (paper.Nonce Nb) → earlier file (ReplyWith to nb) e ≡ true
+      RowHolds file nb (paper.Nonce Nb) → earlier file (Said (To to) (what.ReplyWith nb)) e ≡ true
   reply_with_complete to nb i hn =
       let t = said_told file P e le i in
       let (m, x) = (shapes file P).reply_complete (heard_at file t.at).row t.row t.meant in
-      some (ReplyWith to nb) t.at t.before (rw (t.to, x.found, one_row file P m.nb nb x.nb hn) refl)
+      some (Said (To to) (what.ReplyWith nb)) t.at t.before (rw (t.to, x.found, one_row file P m.nb nb x.nb hn) refl)
 
-  pub reply_to_sound : (to nb sid pb : ℕ) {Nb : paper.nonce} {SID Pb : ℕ} → earlier file (ReplyTo to nb sid pb) e ≡ true →
+  pub reply_to_sound : (to nb sid pb : ℕ) {Nb : paper.nonce} {SID Pb : ℕ} → earlier file (Said (To to) (what.Reply (record { nb = nb; sid = sid; pb = pb }))) e ≡ true →
       RowHolds file nb (paper.Nonce Nb) → RowHolds file sid (paper.Number SID) → RowHolds file pb (paper.Number Pb) →
       (B : paper.agent) × In (Says B to (SH Nb SID Pb)) (beginning file e)
   reply_to_sound to nb sid pb t hn hs hp =
-      let f = found (ReplyTo to nb sid pb) t in
+      let f = found (Said (To to) (what.Reply (record { nb = nb; sid = sid; pb = pb }))) t in
       let r = (heard_at file f.0).row in
       let b = both (said_to (heard_at file f.0) to) (is_reply file r nb sid pb) f.2 in
       to_sound file P e le f.0 to f.1 b.0 (reply_is file P r nb sid pb (row_in file P e le f.0 f.1) b.1 hn hs hp)
 
   pub reply_to_complete : (to nb sid pb : ℕ) {B : paper.agent} {Nb : paper.nonce} {SID Pb : ℕ} →
       In (Says B to (SH Nb SID Pb)) (beginning file e) → RowHolds file nb (paper.Nonce Nb) →
-      RowHolds file sid (paper.Number SID) → RowHolds file pb (paper.Number Pb) → earlier file (ReplyTo to nb sid pb) e ≡ true
+      RowHolds file sid (paper.Number SID) → RowHolds file pb (paper.Number Pb) → earlier file (Said (To to) (what.Reply (record { nb = nb; sid = sid; pb = pb }))) e ≡ true
   reply_to_complete to nb sid pb i hn hs hp =
       let t = said_told file P e le i in
-      some (ReplyTo to nb sid pb) t.at t.before
+      some (Said (To to) (what.Reply (record { nb = nb; sid = sid; pb = pb }))) t.at t.before
       (rw (t.to, is_reply_lem file P (heard_at file t.at).row nb sid pb t.row t.meant hn hs hp) refl)
 
-  pub reply_by_sound : (from to nb sid pb : ℕ) {Nb : paper.nonce} {SID Pb : ℕ} → earlier file (ReplyBy from to nb sid pb) e ≡ true →
+  pub reply_by_sound : (from to nb sid pb : ℕ) {Nb : paper.nonce} {SID Pb : ℕ} → earlier file (Said (By from to) (what.Reply (record { nb = nb; sid = sid; pb = pb }))) e ≡ true →
       RowHolds file nb (paper.Nonce Nb) → RowHolds file sid (paper.Number SID) → RowHolds file pb (paper.Number Pb) →
       In (Says from to (SH Nb SID Pb)) (beginning file e)
   reply_by_sound from to nb sid pb t hn hs hp =
-      let f = found (ReplyBy from to nb sid pb) t in
+      let f = found (Said (By from to) (what.Reply (record { nb = nb; sid = sid; pb = pb }))) t in
       let r = (heard_at file f.0).row in
       let b = both (said_by (heard_at file f.0) from to) (is_reply file r nb sid pb) f.2 in
       by_sound file P e le f.0 from to f.1 b.0 (reply_is file P r nb sid pb (row_in file P e le f.0 f.1) b.1 hn hs hp)
 
   pub reply_by_complete : (from to nb sid pb : ℕ) {Nb : paper.nonce} {SID Pb : ℕ} →
       In (Says from to (SH Nb SID Pb)) (beginning file e) → RowHolds file nb (paper.Nonce Nb) →
-      RowHolds file sid (paper.Number SID) → RowHolds file pb (paper.Number Pb) → earlier file (ReplyBy from to nb sid pb) e ≡ true
+      RowHolds file sid (paper.Number SID) → RowHolds file pb (paper.Number Pb) → earlier file (Said (By from to) (what.Reply (record { nb = nb; sid = sid; pb = pb }))) e ≡ true
   reply_by_complete from to nb sid pb i hn hs hp =
       let t = said_told file P e le i in
-      some (ReplyBy from to nb sid pb) t.at t.before
+      some (Said (By from to) (what.Reply (record { nb = nb; sid = sid; pb = pb }))) t.at t.before
       (rw (t.by, is_reply_lem file P (heard_at file t.at).row nb sid pb t.row t.meant hn hs hp) refl)
 
-  pub cert_sound : (to agent key : ℕ) {K : paper.key} → earlier file (Cert to agent key) e ≡ true → RowHolds file key (paper.Key K) →
+  pub cert_sound : (to agent key : ℕ) {K : paper.key} → earlier file (Said (To to) (what.Certificate agent key)) e ≡ true → RowHolds file key (paper.Key K) →
       (B : paper.agent) × In (Says B to (cert agent K)) (beginning file e)
   cert_sound to agent key {K} t hk =
-      let (j, l, f) = found (Cert to agent key) t in
+      let (j, l, f) = found (Said (To to) (what.Certificate agent key)) t in
       let b = both (said_to (heard_at file j) to) _ f in
       let (m, h, g) = is_some_and_true b.1 in
       let c = both (eqb m.agent agent) (eqb m.key key) g in
@@ -257,17 +260,17 @@ module _ (file : List ℕ) (P : Promised file) (e : ℕ) (le : e ≤ events_of f
       to_sound file P e le j to l b.0 q
 
   pub cert_complete : (to agent key : ℕ) {B : paper.agent} {K : paper.key} → In (Says B to (cert agent K)) (beginning file e) →
-      RowHolds file key (paper.Key K) → earlier file (Cert to agent key) e ≡ true
+      RowHolds file key (paper.Key K) → earlier file (Said (To to) (what.Certificate agent key)) e ≡ true
   cert_complete to agent key i hk =
       let t = said_told file P e le i in
       let (m, x) = (shapes file P).signed_complete (heard_at file t.at).row t.row t.meant in
-      some (Cert to agent key) t.at t.before
+      some (Said (To to) (what.Certificate agent key)) t.at t.before
       (rw (t.to, x.found, eq-eqb m.agent agent x.agent, one_row file P m.key key x.key hk) refl)
 
-  pub secret_sound : (from agent secret : ℕ) {PMS : paper.nonce} → earlier file (Secret from agent secret) e ≡ true →
+  pub secret_sound : (from agent secret : ℕ) {PMS : paper.nonce} → earlier file (Noted from (note.Secret agent secret)) e ≡ true →
       RowHolds file secret (paper.Nonce PMS) → In (Notes from (secret_note agent PMS)) (beginning file e)
   secret_sound from agent secret {PMS} t hn =
-      let (j, l, f) = found (Secret from agent secret) t in
+      let (j, l, f) = found (Noted from (note.Secret agent secret)) t in
       let b = both (noted_by (heard_at file j) from) _ f in
       let (m, h, g) = is_some_and_true b.1 in
       let c = both (eqb m.agent agent) (eqb m.secret secret) g in
@@ -278,17 +281,17 @@ module _ (file : List ℕ) (P : Promised file) (e : ℕ) (le : e ≤ events_of f
       noted_sound file P e le j from l b.0 q
 
   pub secret_complete : (from agent secret : ℕ) {PMS : paper.nonce} → In (Notes from (secret_note agent PMS)) (beginning file e) →
-      RowHolds file secret (paper.Nonce PMS) → earlier file (Secret from agent secret) e ≡ true
+      RowHolds file secret (paper.Nonce PMS) → earlier file (Noted from (note.Secret agent secret)) e ≡ true
   secret_complete from agent secret i hn =
       let t = noted_told file P e le i in
       let (m, x) = (shapes file P).kept_complete (heard_at file t.at).row t.row t.meant in
-      some (Secret from agent secret) t.at t.before
+      some (Noted from (note.Secret agent secret)) t.at t.before
       (rw (t.by, x.found, eq-eqb m.agent agent x.agent, one_row file P m.secret secret x.secret hn) refl)
 
-  pub sent_sound : (to secret : ℕ) {PMS : paper.nonce} → earlier file (Sent to secret) e ≡ true → RowHolds file secret (paper.Nonce PMS) →
+  pub sent_sound : (to secret : ℕ) {PMS : paper.nonce} → earlier file (Said (To to) (what.Sent to secret)) e ≡ true → RowHolds file secret (paper.Nonce PMS) →
       (A : paper.agent) × In (Says A to (paper.Crypt (paper.pub_k to) (paper.Nonce PMS))) (beginning file e)
   sent_sound to secret {PMS} t hn =
-      let (j, l, f) = found (Sent to secret) t in
+      let (j, l, f) = found (Said (To to) (what.Sent to secret)) t in
       let b = both (said_to (heard_at file j) to) _ f in
       let (c, h, g) = is_some_and_true b.1 in
       let (agent, k, i) = is_some_and_true g in
@@ -304,18 +307,18 @@ module _ (file : List ℕ) (P : Promised file) (e : ℕ) (le : e ≤ events_of f
 
   pub sent_complete : (to secret : ℕ) {A : paper.agent} {PMS : paper.nonce} →
       In (Says A to (paper.Crypt (paper.pub_k to) (paper.Nonce PMS))) (beginning file e) → RowHolds file secret (paper.Nonce PMS) →
-      earlier file (Sent to secret) e ≡ true
+      earlier file (Said (To to) (what.Sent to secret)) e ≡ true
   sent_complete to secret i hn =
       let t = said_told file P e le i in
       let (c, x) = (shapes file P).crypt_complete (heard_at file t.at).row t.row t.meant in
       let n = (shapes file P).public_complete c.key x.key.row x.key.meant in
-      some (Sent to secret) t.at t.before
+      some (Said (To to) (what.Sent to secret)) t.at t.before
       (rw (t.to, x.found, n.found, eq-eqb to to refl, one_row file P c.body secret x.body hn) refl)
 
-  pub session_sound : (from sid a b m : ℕ) {SID : ℕ} {M : paper.nonce} → earlier file (Session from sid a b m) e ≡ true →
+  pub session_sound : (from sid a b m : ℕ) {SID : ℕ} {M : paper.nonce} → earlier file (Noted from (note.Session (record { sid = sid; a = a; b = b; m = m }))) e ≡ true →
       RowHolds file sid (paper.Number SID) → RowHolds file m (paper.Nonce M) → In (Notes from (session_note SID a b M)) (beginning file e)
   session_sound from sid a b m {SID} {M} t hs hm =
-      let (j, l, f) = found (Session from sid a b m) t in
+      let (j, l, f) = found (Noted from (note.Session (record { sid = sid; a = a; b = b; m = m }))) t in
       let d = both (noted_by (heard_at file j) from) _ f in
       let (y, h, g) = is_some_and_true d.1 in
       let c = both4 (eqb y.sid sid) (eqb y.a a) (eqb y.b b) (eqb y.m m) g in
@@ -328,11 +331,11 @@ module _ (file : List ℕ) (P : Promised file) (e : ℕ) (le : e ≤ events_of f
       noted_sound file P e le j from l d.0 q
 
   pub session_complete : (from sid a b m : ℕ) {SID : ℕ} {M : paper.nonce} → In (Notes from (session_note SID a b M)) (beginning file e) →
-      RowHolds file sid (paper.Number SID) → RowHolds file m (paper.Nonce M) → earlier file (Session from sid a b m) e ≡ true
+      RowHolds file sid (paper.Number SID) → RowHolds file m (paper.Nonce M) → earlier file (Noted from (note.Session (record { sid = sid; a = a; b = b; m = m }))) e ≡ true
   session_complete from sid a b m i hs hm =
       let t = noted_told file P e le i in
       let (y, x) = (shapes file P).remembered_complete (heard_at file t.at).row t.row t.meant in
-      some (Session from sid a b m) t.at t.before
+      some (Noted from (note.Session (record { sid = sid; a = a; b = b; m = m }))) t.at t.before
       (rw (
         t.by,
         x.found,
@@ -342,10 +345,10 @@ module _ (file : List ℕ) (P : Promised file) (e : ℕ) (le : e ≤ events_of f
         one_row file P y.m m x.m hm,
       ) refl)
 
-  pub under_sound : (from key : ℕ) {K : paper.key} → earlier file (Under from key) e ≡ true → RowHolds file key (paper.Key K) →
+  pub under_sound : (from key : ℕ) {K : paper.key} → earlier file (Said (From from) (what.Under key)) e ≡ true → RowHolds file key (paper.Key K) →
       (B : paper.agent) × (X : paper.msg) × In (Says from B (paper.Crypt K X)) (beginning file e)
   under_sound from key {K} t hk =
-      let (j, l, f) = found (Under from key) t in
+      let (j, l, f) = found (Said (From from) (what.Under key)) t in
       let h = heard_at file j in
       let b = both (h.says && eqb h.from from) _ f in
       let (c, g, k) = is_some_and_true b.1 in
@@ -355,9 +358,9 @@ module _ (file : List ℕ) (P : Promised file) (e : ℕ) (le : e ≤ events_of f
       (s.0, message file c.body, s.1)
 
   pub under_complete : (from key : ℕ) {B : paper.agent} {K : paper.key} {X : paper.msg} →
-      In (Says from B (paper.Crypt K X)) (beginning file e) → RowHolds file key (paper.Key K) → earlier file (Under from key) e ≡ true
+      In (Says from B (paper.Crypt K X)) (beginning file e) → RowHolds file key (paper.Key K) → earlier file (Said (From from) (what.Under key)) e ≡ true
   under_complete from key i hk =
       let t = said_told file P e le i in
       let (c, x) = (shapes file P).crypt_complete (heard_at file t.at).row t.row t.meant in
-      some (Under from key) t.at t.before
+      some (Said (From from) (what.Under key)) t.at t.before
       (rw (t.says, eq-eqb (heard_at file t.at).from from t.from, x.found, one_row file P c.key key x.key hk) refl)

@@ -19,11 +19,17 @@ use Rattle.forms.specs.declared.Signed.{Signed}
 use Rattle.forms.specs.declared.Remembered.{Remembered}
 use Rattle.earlier.specs.Heard.{Heard}
 use Rattle.earlier.specs.declared.Wanted.{Wanted}
-use Rattle.earlier.specs.declared.Wanted.TheVariants.{HelloFor, HelloBy, HelloTo, ReplyWith, ReplyTo, ReplyBy, Cert, Secret, Sent, Session, Under}
+use Rattle.earlier.specs.declared.Who.{Who}
+use Rattle.earlier.specs.declared.What.{What}
+use Rattle.earlier.specs.declared.Note.{Note}
+use Rattle.earlier.specs.declared.Wanted.TheVariants.{Said, Noted}
+use Rattle.earlier.specs.declared.Who.TheVariants.{To, By, From}
+use Rattle.earlier.specs.declared.What.TheVariants as what
+use Rattle.earlier.specs.declared.Note.TheVariants as note
 use Rattle.earlier.specs.declared.cards.Card.{Card}
 use Rattle.earlier.specs.declared.cards.Card.TheVariants as card
-use Rattle.earlier.specs.Earlier.{said_to, said_by, noted_by, is_hello, is_hello_for, is_reply, is_reply_with, fits_in}
-use Rattle.earlier.specs.Cards.{crypt_card, clear_card, said_card, noted_with, card_of, fits_card, fits_agents}
+use Rattle.earlier.specs.Earlier.{said_as, noted_by, holds, keeps, fits_in}
+use Rattle.earlier.specs.Cards.{crypt_card, clear_card, said_card, noted_with, card_of, fits_said, fits_noted, fits_card, fits_agents}
 use Rattle.earlier.proofs.Apart.{unfound, hello_crypt, reply_crypt, reply_hello, session_kept, cert_crypt, sent_cert}
 
 -- what no Crypt is
@@ -68,51 +74,49 @@ module _ (p : Card → Bool) (k : Crypt → Option ℕ) where
   of_reply None s None None no_c no_h o f g e r = sym o
 
 -- a certificate is a Crypt
-of_cert : (to agent key : ℕ) (k : Crypt → Option ℕ) (c : Option Crypt) (s : Option Signed) (h : Option Hello) (n : Option Reply) →
+of_cert : (agent key : ℕ) (k : Crypt → Option ℕ) (c : Option Crypt) (s : Option Signed) (h : Option Hello) (n : Option Reply) →
     ((m : Signed) → s ≡ Some m → (x : Crypt) × (c ≡ Some x)) →
-    is_some_and s (λ m. eqb m.agent agent && eqb m.key key) ≡ fits_card (Cert to agent key) (one (fits_card (Cert to agent key)) k c s h n)
-of_cert to agent key k (Some x) (Some m) h n crypt = refl
-of_cert to agent key k (Some x) None h n crypt = sym (not_cert x (k x))
+    is_some_and s (λ m. eqb m.agent agent && eqb m.key key) ≡
+    fits_said (what.Certificate agent key) (one (fits_said (what.Certificate agent key)) k c s h n)
+of_cert agent key k (Some x) (Some m) h n crypt = refl
+of_cert agent key k (Some x) None h n crypt = sym (not_cert x (k x))
   where
-    not_cert : (x : Crypt) (k : Option ℕ) → fits_card (Cert to agent key) (crypt_card x None k) ≡ false
+    not_cert : (x : Crypt) (k : Option ℕ) → fits_said (what.Certificate agent key) (crypt_card x None k) ≡ false
     not_cert x (Some a) = refl
     not_cert x None = refl
-of_cert to agent key k None (Some m) h n crypt = unfound refl (crypt m refl).1
-of_cert to agent key k None None (Some m) n crypt = refl
-of_cert to agent key k None None None (Some m) crypt = refl
-of_cert to agent key k None None None None crypt = refl
+of_cert agent key k None (Some m) h n crypt = unfound refl (crypt m refl).1
+of_cert agent key k None None (Some m) n crypt = refl
+of_cert agent key k None None None (Some m) crypt = refl
+of_cert agent key k None None None None crypt = refl
 
 -- what a Crypt holds
 sent : (x : Crypt) (s : Option Signed) (k : Option ℕ) (to secret : ℕ) → ((a : ℕ) → k ≡ Some a → s ≡ None) →
-    is_some_and k (λ agent. eqb agent to && eqb x.body secret) ≡ fits_card (Sent to secret) (crypt_card x s k)
+    is_some_and k (λ agent. eqb agent to && eqb x.body secret) ≡ fits_said (what.Sent to secret) (crypt_card x s k)
 sent x (Some m) (Some a) to secret apart = unfound (apart _ refl) refl
 sent x (Some m) None to secret apart = refl
 sent x None (Some a) to secret apart = refl
 sent x None None to secret apart = refl
 
-under : (x : Crypt) (s : Option Signed) (k : Option ℕ) (from key : ℕ) → eqb x.key key ≡ fits_card (Under from key) (crypt_card x s k)
-under x (Some m) k from key = refl
-under x None (Some a) from key = refl
-under x None None from key = refl
+under : (x : Crypt) (s : Option Signed) (k : Option ℕ) (key : ℕ) → eqb x.key key ≡ fits_said (what.Under key) (crypt_card x s k)
+under x (Some m) k key = refl
+under x None (Some a) key = refl
+under x None None key = refl
 
 -- what is noted
-of_kept : (from agent secret : ℕ) (k : Option Kept) (n : Option Remembered) →
-    is_some_and k (λ m. eqb m.agent agent && eqb m.secret secret) ≡ fits_card (Secret from agent secret) (noted_with k n)
-of_kept from agent secret (Some m) n = refl
-of_kept from agent secret None (Some m) = refl
-of_kept from agent secret None None = refl
+of_kept : (agent secret : ℕ) (k : Option Kept) (n : Option Remembered) →
+    is_some_and k (λ m. eqb m.agent agent && eqb m.secret secret) ≡ fits_noted (note.Secret agent secret) (noted_with k n)
+of_kept agent secret (Some m) n = refl
+of_kept agent secret None (Some m) = refl
+of_kept agent secret None None = refl
 
-of_session : (from sid a b m : ℕ) (k : Option Kept) (n : Option Remembered) → ((y : Remembered) → n ≡ Some y → k ≡ None) →
-    is_some_and n (λ y. eqb y.sid sid && eqb y.a a && eqb y.b b && eqb y.m m) ≡ fits_card (Session from sid a b m) (noted_with k n)
-of_session from sid a b m (Some x) (Some y) apart = unfound (apart _ refl) refl
-of_session from sid a b m (Some x) None apart = refl
-of_session from sid a b m None (Some y) apart = refl
-of_session from sid a b m None None apart = refl
+of_session : (w : Remembered) (k : Option Kept) (n : Option Remembered) → ((y : Remembered) → n ≡ Some y → k ≡ None) →
+    is_some_and n (λ y. eqb y.sid w.sid && eqb y.a w.a && eqb y.b w.b && eqb y.m w.m) ≡ fits_noted (note.Session w) (noted_with k n)
+of_session w (Some x) (Some y) apart = unfound (apart _ refl) refl
+of_session w (Some x) None apart = refl
+of_session w None (Some y) apart = refl
+of_session w None None apart = refl
 
 module _ (file : List ℕ) (r : ℕ) where
-  abbrev Fits : Wanted → Bool
-  Fits wanted = fits_card wanted (said_card file r)
-
   abbrev keys : Crypt → Option ℕ
   keys x = public_of file x.key
 
@@ -128,56 +132,28 @@ module _ (file : List ℕ) (r : ℕ) where
   abbrev n : Option Reply
   n = reply_of file r
 
-  hello_for : (to agent sid : ℕ) → is_hello_for file r agent sid ≡ Fits (HelloFor to agent sid)
-  hello_for to agent sid =
-      of_hello (fits_card (HelloFor to agent sid)) keys c s h n (hello_crypt file r) refl (λ x m. refl) (λ x a. refl) (λ x. refl) (λ m. refl)
-
-  hello : (to agent na sid pa : ℕ) → is_hello file r agent na sid pa ≡ Fits (HelloTo to agent na sid pa)
-  hello to agent na sid pa =
-      of_hello (fits_card (HelloTo to agent na sid pa)) keys c s h n (hello_crypt file r) refl (λ x m. refl) (λ x a. refl) (λ x. refl) (λ m. refl)
-
-  hello_by : (from to na sid pa : ℕ) → is_hello file r from na sid pa ≡ Fits (HelloBy from to na sid pa)
-  hello_by from to na sid pa =
-      of_hello (fits_card (HelloBy from to na sid pa)) keys c s h n (hello_crypt file r) refl (λ x m. refl) (λ x a. refl) (λ x. refl) (λ m. refl)
-
-  reply : (to nb sid pb : ℕ) → is_reply file r nb sid pb ≡ Fits (ReplyTo to nb sid pb)
-  reply to nb sid pb =
-      of_reply (fits_card (ReplyTo to nb sid pb)) keys c s h n (reply_crypt file r) (reply_hello file r)
+  said_fits : (w : What) → holds file r w ≡ fits_said w (said_card file r)
+  said_fits (what.Hello m) =
+      of_hello (fits_said (what.Hello m)) keys c s h n (hello_crypt file r) refl (λ x m. refl) (λ x a. refl) (λ x. refl) (λ m. refl)
+  said_fits (what.HelloFor agent sid) =
+      of_hello (fits_said (what.HelloFor agent sid)) keys c s h n (hello_crypt file r) refl (λ x m. refl) (λ x a. refl) (λ x. refl) (λ m. refl)
+  said_fits (what.Reply m) =
+      of_reply (fits_said (what.Reply m)) keys c s h n (reply_crypt file r) (reply_hello file r)
       refl (λ x m. refl) (λ x a. refl) (λ x. refl) (λ m. refl)
-
-  reply_by : (from to nb sid pb : ℕ) → is_reply file r nb sid pb ≡ Fits (ReplyBy from to nb sid pb)
-  reply_by from to nb sid pb =
-      of_reply (fits_card (ReplyBy from to nb sid pb)) keys c s h n (reply_crypt file r) (reply_hello file r)
+  said_fits (what.ReplyWith nb) =
+      of_reply (fits_said (what.ReplyWith nb)) keys c s h n (reply_crypt file r) (reply_hello file r)
       refl (λ x m. refl) (λ x a. refl) (λ x. refl) (λ m. refl)
-
-  reply_with : (to nb : ℕ) → is_reply_with file r nb ≡ Fits (ReplyWith to nb)
-  reply_with to nb =
-      of_reply (fits_card (ReplyWith to nb)) keys c s h n (reply_crypt file r) (reply_hello file r)
-      refl (λ x m. refl) (λ x a. refl) (λ x. refl) (λ m. refl)
-
-  cert : (to agent key : ℕ) → is_some_and s (λ m. eqb m.agent agent && eqb m.key key) ≡ Fits (Cert to agent key)
-  cert to agent key = of_cert to agent key keys c s h n (cert_crypt file r)
-
-  secret_sent : (to secret : ℕ) →
-      is_some_and c (λ x. is_some_and (public_of file x.key) (λ agent. eqb agent to && eqb x.body secret)) ≡ Fits (Sent to secret)
-  secret_sent to secret =
-      of_crypt (fits_card (Sent to secret)) keys _ c s h n
+  said_fits (what.Certificate agent key) = of_cert agent key keys c s h n (cert_crypt file r)
+  said_fits (what.Sent to secret) =
+      of_crypt (fits_said (what.Sent to secret)) keys _ c s h n
       (λ x e. sent x s (public_of file x.key) to secret (λ a p. sent_cert file r x a e p))
       refl (λ m. refl) (λ m. refl)
+  said_fits (what.Under key) =
+      of_crypt (fits_said (what.Under key)) keys _ c s h n (λ x e. under x s (public_of file x.key) key) refl (λ m. refl) (λ m. refl)
 
-  under_key_lem : (from key : ℕ) → is_some_and c (λ x. eqb x.key key) ≡ Fits (Under from key)
-  under_key_lem from key =
-      of_crypt (fits_card (Under from key)) keys _ c s h n (λ x e. under x s (public_of file x.key) from key) refl (λ m. refl) (λ m. refl)
-
-  abbrev Noted : Wanted → Bool
-  Noted wanted = fits_card wanted (noted_with (kept_of file r) (remembered_of file r))
-
-  secret : (from agent pms : ℕ) → is_some_and (kept_of file r) (λ m. eqb m.agent agent && eqb m.secret pms) ≡ Noted (Secret from agent pms)
-  secret from agent pms = of_kept from agent pms (kept_of file r) (remembered_of file r)
-
-  session : (from sid a b m : ℕ) →
-      is_some_and (remembered_of file r) (λ y. eqb y.sid sid && eqb y.a a && eqb y.b b && eqb y.m m) ≡ Noted (Session from sid a b m)
-  session from sid a b m = of_session from sid a b m (kept_of file r) (remembered_of file r) (session_kept file r)
+  noted_fits : (w : Note) → keeps file r w ≡ fits_noted w (noted_with (kept_of file r) (remembered_of file r))
+  noted_fits (note.Secret agent secret) = of_kept agent secret (kept_of file r) (remembered_of file r)
+  noted_fits (note.Session m) = of_session m (kept_of file r) (remembered_of file r) (session_kept file r)
 
 -- the card is of a message that is said, or noted
 swapped : (g : Bool) {p q : Bool} → (g ≡ true → p ≡ q) → (g && p) ≡ (q && g)
@@ -192,33 +168,12 @@ module _ (file : List ℕ) (h : Heard) where
       fits_card wanted (noted_with (kept_of file h.row) (remembered_of file h.row)) ≡ fits_card wanted (card_of file h)
   noted wanted t = rw (not-true h.says t) refl
 
-  to_says : (to : ℕ) → said_to h to ≡ true → h.says ≡ true
-  to_says to t = (both h.says (eqb h.to to) t).0
-
-  by_says : (from to : ℕ) → said_by h from to ≡ true → h.says ≡ true
-  by_says from to t = (both3 h.says (eqb h.from from) (eqb h.to to) t).0
-
-  by_notes : (from : ℕ) → noted_by h from ≡ true → not h.says ≡ true
-  by_notes from t = (both (not h.says) (eqb h.from from) t).0
+  as_says : (who : Who) → said_as h who ≡ true → h.says ≡ true
+  as_says (To to) t = (both h.says (eqb h.to to) t).0
+  as_says (By from to) t = (both3 h.says (eqb h.from from) (eqb h.to to) t).0
+  as_says (From from) t = (both h.says (eqb h.from from) t).0
 
   pub card_fits : (wanted : Wanted) → fits_in file wanted h ≡ (fits_card wanted (card_of file h) && fits_agents wanted h)
-  card_fits (HelloFor to agent sid) =
-      swapped (said_to h to) (λ t. hello_for file h.row to agent sid ∙ said (HelloFor to agent sid) (to_says to t))
-  card_fits (HelloBy from to na sid pa) =
-      swapped (said_by h from to) (λ t. hello_by file h.row from to na sid pa ∙ said (HelloBy from to na sid pa) (by_says from to t))
-  card_fits (HelloTo to agent na sid pa) =
-      swapped (said_to h to) (λ t. hello file h.row to agent na sid pa ∙ said (HelloTo to agent na sid pa) (to_says to t))
-  card_fits (ReplyWith to nb) = swapped (said_to h to) (λ t. reply_with file h.row to nb ∙ said (ReplyWith to nb) (to_says to t))
-  card_fits (ReplyTo to nb sid pb) =
-      swapped (said_to h to) (λ t. reply file h.row to nb sid pb ∙ said (ReplyTo to nb sid pb) (to_says to t))
-  card_fits (ReplyBy from to nb sid pb) =
-      swapped (said_by h from to) (λ t. reply_by file h.row from to nb sid pb ∙ said (ReplyBy from to nb sid pb) (by_says from to t))
-  card_fits (Cert to agent key) = swapped (said_to h to) (λ t. cert file h.row to agent key ∙ said (Cert to agent key) (to_says to t))
-  card_fits (Secret from agent pms) =
-      swapped (noted_by h from) (λ t. secret file h.row from agent pms ∙ noted (Secret from agent pms) (by_notes from t))
-  card_fits (Sent to pms) = swapped (said_to h to) (λ t. secret_sent file h.row to pms ∙ said (Sent to pms) (to_says to t))
-  card_fits (Session from sid a b m) =
-      swapped (noted_by h from) (λ t. session file h.row from sid a b m ∙ noted (Session from sid a b m) (by_notes from t))
-  card_fits (Under from key) =
-      swapped (h.says && eqb h.from from)
-      (λ t. under_key_lem file h.row from key ∙ said (Under from key) (both h.says (eqb h.from from) t).0)
+  card_fits (Said who w) = swapped (said_as h who) (λ t. said_fits file h.row w ∙ said (Said who w) (as_says who t))
+  card_fits (Noted from w) =
+      swapped (noted_by h from) (λ t. noted_fits file h.row w ∙ noted (Noted from w) (both (not h.says) (eqb h.from from) t).0)

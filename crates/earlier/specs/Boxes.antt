@@ -7,7 +7,8 @@ use Rattle.laws.specs.First.{any}
 use Rattle.laws.specs.Choose.{choose}
 use Rattle.earlier.specs.Heard.{Heard}
 use Rattle.earlier.specs.declared.Wanted.{Wanted}
-use Rattle.earlier.specs.declared.Wanted.TheVariants.{HelloFor, HelloBy, HelloTo, ReplyWith, ReplyTo, ReplyBy, Cert, Secret, Sent, Session, Under}
+use Rattle.earlier.specs.declared.Wanted.TheVariants.{Said, Noted}
+use Rattle.earlier.specs.declared.Who.TheVariants.{To, By, From}
 use Rattle.earlier.specs.declared.cards.Card.{Card}
 use Rattle.earlier.specs.declared.cards.Card.TheVariants as card
 use Rattle.earlier.specs.declared.boxes.Boxes.{Boxes}
@@ -28,19 +29,12 @@ slot_count = 1024
 abbrev pub box_of : Heard → ℕ
 box_of h = choose h.says (h.to % agent_limit) (notes_at + h.from % agent_limit)
 
--- the box of what is wanted; what lies under a key can be in any box of what is said
+-- the box of what is wanted; what is said to anyone can be in any box of what is said
 abbrev pub box_for : Wanted → Option ℕ
-box_for (HelloFor to agent sid) = Some (to % agent_limit)
-box_for (HelloBy from to na sid pa) = Some (to % agent_limit)
-box_for (HelloTo to agent na sid pa) = Some (to % agent_limit)
-box_for (ReplyWith to nb) = Some (to % agent_limit)
-box_for (ReplyTo to nb sid pb) = Some (to % agent_limit)
-box_for (ReplyBy from to nb sid pb) = Some (to % agent_limit)
-box_for (Cert to agent key) = Some (to % agent_limit)
-box_for (Secret from agent secret) = Some (notes_at + from % agent_limit)
-box_for (Sent to secret) = Some (to % agent_limit)
-box_for (Session from sid a b m) = Some (notes_at + from % agent_limit)
-box_for (Under from key) = None
+box_for (Said (To to) w) = Some (to % agent_limit)
+box_for (Said (By from to) w) = Some (to % agent_limit)
+box_for (Said (From from) w) = None
+box_for (Noted from n) = Some (notes_at + from % agent_limit)
 
 -- the latest event in the box of what is said to an agent
 abbrev pub latest_to : Boxes → ℕ → ℕ

@@ -11,10 +11,14 @@ use Rattle.forms.specs.declared.Signed.{Signed}
 use Rattle.forms.specs.declared.Remembered.{Remembered}
 use Rattle.earlier.specs.Heard.{Heard}
 use Rattle.earlier.specs.declared.Wanted.{Wanted}
-use Rattle.earlier.specs.declared.Wanted.TheVariants.{HelloFor, HelloBy, HelloTo, ReplyWith, ReplyTo, ReplyBy, Cert, Secret, Sent, Session, Under}
+use Rattle.earlier.specs.declared.What.{What}
+use Rattle.earlier.specs.declared.Note.{Note}
+use Rattle.earlier.specs.declared.Wanted.TheVariants.{Said, Noted}
+use Rattle.earlier.specs.declared.What.TheVariants as what
+use Rattle.earlier.specs.declared.Note.TheVariants as note
 use Rattle.earlier.specs.declared.cards.Card.{Card}
 use Rattle.earlier.specs.declared.cards.Card.TheVariants as card
-use Rattle.earlier.specs.Earlier.{said_to, said_by, noted_by}
+use Rattle.earlier.specs.Earlier.{said_as, noted_by}
 
 -- a Crypt: a certificate, a secret under a public key, or any other; each with the row of its key
 abbrev pub crypt_card : Crypt → Option Signed → Option ℕ → Card
@@ -45,32 +49,28 @@ abbrev pub card_of : List ℕ → Heard → Card
 card_of file h = choose h.says (said_card file h.row) (noted_with (kept_of file h.row) (remembered_of file h.row))
 
 -- what is asked of the message
+abbrev pub fits_said : What → Card → Bool
+fits_said (what.Hello w) (card.Hello m) = eqb m.agent w.agent && eqb m.na w.na && eqb m.sid w.sid && eqb m.pa w.pa
+fits_said (what.HelloFor agent sid) (card.Hello m) = eqb m.agent agent && eqb m.sid sid
+fits_said (what.Reply w) (card.Reply m) = eqb m.nb w.nb && eqb m.sid w.sid && eqb m.pb w.pb
+fits_said (what.ReplyWith nb) (card.Reply m) = eqb m.nb nb
+fits_said (what.Certificate agent key) (card.Certificate under m) = eqb m.agent agent && eqb m.key key
+fits_said (what.Sent to secret) (card.Sent under agent body) = eqb agent to && eqb body secret
+fits_said (what.Under key) (card.Certificate under m) = eqb under key
+fits_said (what.Under key) (card.Sent under agent body) = eqb under key
+fits_said (what.Under key) (card.Crypt under) = eqb under key
+fits_said _ _ = false
+
+abbrev pub fits_noted : Note → Card → Bool
+fits_noted (note.Secret agent secret) (card.Secret m) = eqb m.agent agent && eqb m.secret secret
+fits_noted (note.Session n) (card.Session m) = eqb m.sid n.sid && eqb m.a n.a && eqb m.b n.b && eqb m.m n.m
+fits_noted _ _ = false
+
 abbrev pub fits_card : Wanted → Card → Bool
-fits_card (HelloFor to agent sid) (card.Hello m) = eqb m.agent agent && eqb m.sid sid
-fits_card (HelloBy from to na sid pa) (card.Hello m) = eqb m.agent from && eqb m.na na && eqb m.sid sid && eqb m.pa pa
-fits_card (HelloTo to agent na sid pa) (card.Hello m) = eqb m.agent agent && eqb m.na na && eqb m.sid sid && eqb m.pa pa
-fits_card (ReplyWith to nb) (card.Reply m) = eqb m.nb nb
-fits_card (ReplyTo to nb sid pb) (card.Reply m) = eqb m.nb nb && eqb m.sid sid && eqb m.pb pb
-fits_card (ReplyBy from to nb sid pb) (card.Reply m) = eqb m.nb nb && eqb m.sid sid && eqb m.pb pb
-fits_card (Cert to agent key) (card.Certificate under m) = eqb m.agent agent && eqb m.key key
-fits_card (Secret from agent secret) (card.Secret m) = eqb m.agent agent && eqb m.secret secret
-fits_card (Sent to secret) (card.Sent under agent body) = eqb agent to && eqb body secret
-fits_card (Session from sid a b m) (card.Session n) = eqb n.sid sid && eqb n.a a && eqb n.b b && eqb n.m m
-fits_card (Under from key) (card.Certificate under m) = eqb under key
-fits_card (Under from key) (card.Sent under agent body) = eqb under key
-fits_card (Under from key) (card.Crypt under) = eqb under key
-fits_card _ _ = false
+fits_card (Said who w) c = fits_said w c
+fits_card (Noted from n) c = fits_noted n c
 
 -- and of who said or noted it
 abbrev pub fits_agents : Wanted → Heard → Bool
-fits_agents (HelloFor to agent sid) h = said_to h to
-fits_agents (HelloBy from to na sid pa) h = said_by h from to
-fits_agents (HelloTo to agent na sid pa) h = said_to h to
-fits_agents (ReplyWith to nb) h = said_to h to
-fits_agents (ReplyTo to nb sid pb) h = said_to h to
-fits_agents (ReplyBy from to nb sid pb) h = said_by h from to
-fits_agents (Cert to agent key) h = said_to h to
-fits_agents (Secret from agent secret) h = noted_by h from
-fits_agents (Sent to secret) h = said_to h to
-fits_agents (Session from sid a b m) h = noted_by h from
-fits_agents (Under from key) h = h.says && eqb h.from from
+fits_agents (Said who w) h = said_as h who
+fits_agents (Noted from n) h = noted_by h from

@@ -9,7 +9,13 @@ use Rattle.forms.specs.Kinds.{crypt_of, public_of}
 use Rattle.forms.specs.Forms.{hello_of, reply_of, kept_of, signed_of, remembered_of}
 use Rattle.earlier.specs.Heard.{Heard}
 use Rattle.earlier.specs.declared.Wanted.{Wanted}
-use Rattle.earlier.specs.declared.Wanted.TheVariants.{HelloFor, HelloBy, HelloTo, ReplyWith, ReplyTo, ReplyBy, Cert, Secret, Sent, Session, Under}
+use Rattle.earlier.specs.declared.Who.{Who}
+use Rattle.earlier.specs.declared.What.{What}
+use Rattle.earlier.specs.declared.Note.{Note}
+use Rattle.earlier.specs.declared.Wanted.TheVariants.{Said, Noted}
+use Rattle.earlier.specs.declared.Who.TheVariants.{To, By, From}
+use Rattle.earlier.specs.declared.What.TheVariants as what
+use Rattle.earlier.specs.declared.Note.TheVariants as note
 
 -- an event, flat
 abbrev pub heard_in : Event → Heard
@@ -45,21 +51,31 @@ abbrev pub same_heard : Heard → Heard → Bool
 same_heard h g =
     ((h.says && g.says) || (not h.says && not g.says)) && eqb h.from g.from && eqb h.to g.to && eqb h.row g.row
 
+-- what is asked of who said it
+abbrev pub said_as : Heard → Who → Bool
+said_as h (To to) = said_to h to
+said_as h (By from to) = said_by h from to
+said_as h (From from) = h.says && eqb h.from from
+
+-- of the message that was said, and of the one that was noted
+abbrev pub holds : List ℕ → ℕ → What → Bool
+holds file r (what.Hello m) = is_hello file r m.agent m.na m.sid m.pa
+holds file r (what.HelloFor agent sid) = is_hello_for file r agent sid
+holds file r (what.Reply m) = is_reply file r m.nb m.sid m.pb
+holds file r (what.ReplyWith nb) = is_reply_with file r nb
+holds file r (what.Certificate agent key) = is_some_and (signed_of file r) (λ m. eqb m.agent agent && eqb m.key key)
+holds file r (what.Sent to secret) =
+    is_some_and (crypt_of file r) (λ c. is_some_and (public_of file c.key) (λ agent. eqb agent to && eqb c.body secret))
+holds file r (what.Under key) = is_some_and (crypt_of file r) (λ c. eqb c.key key)
+
+abbrev pub keeps : List ℕ → ℕ → Note → Bool
+keeps file r (note.Secret agent secret) = is_some_and (kept_of file r) (λ m. eqb m.agent agent && eqb m.secret secret)
+keeps file r (note.Session n) =
+    is_some_and (remembered_of file r) (λ m. eqb m.sid n.sid && eqb m.a n.a && eqb m.b n.b && eqb m.m n.m)
+
 abbrev pub fits_in : List ℕ → Wanted → Heard → Bool
-fits_in file (HelloFor to agent sid) h = said_to h to && is_hello_for file h.row agent sid
-fits_in file (HelloBy from to na sid pa) h = said_by h from to && is_hello file h.row from na sid pa
-fits_in file (HelloTo to agent na sid pa) h = said_to h to && is_hello file h.row agent na sid pa
-fits_in file (ReplyWith to nb) h = said_to h to && is_reply_with file h.row nb
-fits_in file (ReplyTo to nb sid pb) h = said_to h to && is_reply file h.row nb sid pb
-fits_in file (ReplyBy from to nb sid pb) h = said_by h from to && is_reply file h.row nb sid pb
-fits_in file (Cert to agent key) h = said_to h to && is_some_and (signed_of file h.row) (λ m. eqb m.agent agent && eqb m.key key)
-fits_in file (Secret from agent secret) h =
-    noted_by h from && is_some_and (kept_of file h.row) (λ m. eqb m.agent agent && eqb m.secret secret)
-fits_in file (Sent to secret) h =
-    said_to h to && is_some_and (crypt_of file h.row) (λ c. is_some_and (public_of file c.key) (λ agent. eqb agent to && eqb c.body secret))
-fits_in file (Session from sid a b m) h =
-    noted_by h from && is_some_and (remembered_of file h.row) (λ n. eqb n.sid sid && eqb n.a a && eqb n.b b && eqb n.m m)
-fits_in file (Under from key) h = (h.says && eqb h.from from) && is_some_and (crypt_of file h.row) (λ c. eqb c.key key)
+fits_in file (Said who w) h = said_as h who && holds file h.row w
+fits_in file (Noted from n) h = noted_by h from && keeps file h.row n
 
 -- some event before e fits
 unfoldable pub earlier : List ℕ → Wanted → ℕ → Bool

@@ -14,7 +14,7 @@ ghost use Rattle.std.specs.Iterator.{YieldsFirst, item_count};
 ghost use Rattle.earlier.specs.Kept.{slot_of, is_again, seal_mark, sealed_at, boxed_in, kept_in};
 
 use super::cards::Card;
-use super::{Wanted, cards};
+use super::{Wanted, Who, cards};
 use trace::limits::{AGENT_LIMIT, AGENTS, EVENT_LIMIT, EVENTS};
 use trace::{Event, EventNo, Role};
 
@@ -56,24 +56,15 @@ fn box_of(event: Event) -> u16
     }
 }
 
-// The box of what is wanted; what lies under a key can be in any, and has none.
+// The box of what is wanted; what is said to anyone can be in any, and has none.
 fn box_for(wanted: Wanted) -> Option<u16>
     ensures value { result ≡ box_for wanted }
     ensures in_range { IfSome result (λ b. b < box_count) }
 {
     match wanted {
-        Wanted::HelloFor(to, _, _)
-        | Wanted::HelloBy(_, to, _, _, _)
-        | Wanted::HelloTo(to, _, _, _, _)
-        | Wanted::ReplyWith(to, _)
-        | Wanted::ReplyTo(to, _, _, _)
-        | Wanted::ReplyBy(_, to, _, _, _)
-        | Wanted::Cert(to, _, _)
-        | Wanted::Sent(to, _) => Some(to % AGENTS),
-        Wanted::Secret(from, _, _) | Wanted::Session(from, _, _, _, _) => {
-            Some(NOTES + from % AGENTS)
-        }
-        Wanted::Under(_, _) => None,
+        Wanted::Said(Who::To(to), _) | Wanted::Said(Who::By(_, to), _) => Some(to % AGENTS),
+        Wanted::Said(Who::From(_), _) => None,
+        Wanted::Noted(from, _) => Some(NOTES + from % AGENTS),
     }
 }
 

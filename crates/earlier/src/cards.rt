@@ -4,9 +4,9 @@ ghost use Rattle.std.specs.Prelude.{◌≡◌};
 ghost use Rattle.forms.specs.Kinds.{public_of};
 ghost use Rattle.forms.specs.Forms.{kept_of, signed_of, remembered_of};
 ghost use Rattle.earlier.specs.Earlier.{heard_in};
-ghost use Rattle.earlier.specs.Cards.{crypt_card, said_card, noted_with, card_of, fits_card, fits_agents};
+ghost use Rattle.earlier.specs.Cards.{crypt_card, said_card, noted_with, card_of, fits_said, fits_noted, fits_card, fits_agents};
 
-use super::{Wanted, noted_by, said_by, said_to};
+use super::{Note, Wanted, What, Who, noted_by, said_by, said_to};
 use forms::leaves::Crypt;
 use forms::{Hello, Kept, Remembered, Reply, Signed};
 use trace::Event;
@@ -76,37 +76,42 @@ pub fn card_of(file: &[u8], event: Event) -> Card
     }
 }
 
+fn fits_said(what: What, card: Card) -> bool
+    ensures { result ≡ fits_said what card }
+{
+    match (what, card) {
+        (What::Hello(hello), Card::Hello(m)) => m == hello,
+        (What::HelloFor(agent, sid), Card::Hello(m)) => m.agent == agent && m.sid == sid,
+        (What::Reply(reply), Card::Reply(m)) => m == reply,
+        (What::ReplyWith(nb), Card::Reply(m)) => m.nb == nb,
+        (What::Certificate(agent, key), Card::Certificate(_, m)) => {
+            m.agent == agent && m.key == key
+        }
+        (What::Sent(to, secret), Card::Sent(_, agent, body)) => agent == to && body == secret,
+        (What::Under(key), Card::Certificate(under, _)) => under == key,
+        (What::Under(key), Card::Sent(under, _, _)) => under == key,
+        (What::Under(key), Card::Crypt(under)) => under == key,
+        _ => false,
+    }
+}
+
+fn fits_noted(note: Note, card: Card) -> bool
+    ensures { result ≡ fits_noted note card }
+{
+    match (note, card) {
+        (Note::Secret(agent, secret), Card::Secret(m)) => m.agent == agent && m.secret == secret,
+        (Note::Session(session), Card::Session(m)) => m == session,
+        _ => false,
+    }
+}
+
 // Whether the message is what is wanted.
 pub fn fits_card(wanted: Wanted, card: Card) -> bool
     ensures { result ≡ fits_card wanted card }
 {
-    match (wanted, card) {
-        (Wanted::HelloFor(_, agent, sid), Card::Hello(m)) => m.agent == agent && m.sid == sid,
-        (Wanted::HelloBy(from, _, na, sid, pa), Card::Hello(m)) => {
-            m.agent == from && m.na == na && m.sid == sid && m.pa == pa
-        }
-        (Wanted::HelloTo(_, agent, na, sid, pa), Card::Hello(m)) => {
-            m.agent == agent && m.na == na && m.sid == sid && m.pa == pa
-        }
-        (Wanted::ReplyWith(_, nb), Card::Reply(m)) => m.nb == nb,
-        (Wanted::ReplyTo(_, nb, sid, pb), Card::Reply(m)) => m.nb == nb
-            && m.sid == sid
-            && m.pb == pb,
-        (Wanted::ReplyBy(_, _, nb, sid, pb), Card::Reply(m)) => {
-            m.nb == nb && m.sid == sid && m.pb == pb
-        }
-        (Wanted::Cert(_, agent, key), Card::Certificate(_, m)) => m.agent == agent && m.key == key,
-        (Wanted::Secret(_, agent, secret), Card::Secret(m)) => {
-            m.agent == agent && m.secret == secret
-        }
-        (Wanted::Sent(to, secret), Card::Sent(_, agent, body)) => agent == to && body == secret,
-        (Wanted::Session(_, sid, a, b, m), Card::Session(n)) => {
-            n.sid == sid && n.a == a && n.b == b && n.m == m
-        }
-        (Wanted::Under(_, key), Card::Certificate(under, _)) => under == key,
-        (Wanted::Under(_, key), Card::Sent(under, _, _)) => under == key,
-        (Wanted::Under(_, key), Card::Crypt(under)) => under == key,
-        _ => false,
+    match wanted {
+        Wanted::Said(_, what) => fits_said(what, card),
+        Wanted::Noted(_, note) => fits_noted(note, card),
     }
 }
 
@@ -115,16 +120,11 @@ pub fn fits_agents(wanted: Wanted, event: Event) -> bool
     ensures { result ≡ fits_agents wanted (heard_in event) }
 {
     match wanted {
-        Wanted::HelloFor(to, _, _)
-        | Wanted::HelloTo(to, _, _, _, _)
-        | Wanted::ReplyWith(to, _)
-        | Wanted::ReplyTo(to, _, _, _)
-        | Wanted::Cert(to, _, _)
-        | Wanted::Sent(to, _) => said_to(event, to),
-        Wanted::HelloBy(from, to, _, _, _) | Wanted::ReplyBy(from, to, _, _, _) => {
-            said_by(event, from, to)
+        Wanted::Said(Who::To(to), _) => said_to(event, to),
+        Wanted::Said(Who::By(from, to), _) => said_by(event, from, to),
+        Wanted::Said(Who::From(from), _) => {
+            matches!(event, Event::Says(sender, _, _) if sender.0 == from)
         }
-        Wanted::Secret(from, _, _) | Wanted::Session(from, _, _, _, _) => noted_by(event, from),
-        Wanted::Under(from, _) => matches!(event, Event::Says(sender, _, _) if sender.0 == from),
+        Wanted::Noted(from, _) => noted_by(event, from),
     }
 }

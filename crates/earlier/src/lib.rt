@@ -8,33 +8,46 @@ ghost use Rattle.std.specs.Prelude.{◌≡◌};
 ghost use Rattle.earlier.specs.Earlier.{heard_in, said_to, said_by, noted_by};
 
 pub use boxes::{Boxes, EMPTY, happened};
+use forms::{Hello, Remembered, Reply};
 use trace::Event;
 
-// What a rule looks for: agents by their numbers, other parts by their rows.
+// Who said it: anyone to this agent, one agent to another, or this agent to anyone.
+#[derive(Clone, Copy, PartialEq, Eq)]
+pub enum Who {
+    To(u16),
+    By(u16, u16),
+    From(u16),
+}
+
+// A message that was said: agents by their numbers, other parts by their rows.
+#[derive(Clone, Copy, PartialEq, Eq)]
+pub enum What {
+    // This CH, and any CH of A with this SID: A, SID.
+    Hello(Hello),
+    HelloFor(u16, u16),
+    // This SH, and any SH with this Nb.
+    Reply(Reply),
+    ReplyWith(u16),
+    // cert(B, K): B, K.
+    Certificate(u16, u16),
+    // Crypt (B's public key) PMS: B, PMS.
+    Sent(u16, u16),
+    // Anything under this key.
+    Under(u16),
+}
+
+// A message that was noted: {Agent B, PMS}, by B and PMS, or this session.
+#[derive(Clone, Copy, PartialEq, Eq)]
+pub enum Note {
+    Secret(u16, u16),
+    Session(Remembered),
+}
+
+// What a rule looks for: what was said, and who said it; or what an agent noted.
 #[derive(Clone, Copy, PartialEq, Eq)]
 pub enum Wanted {
-    // Anyone said CH to B with this A and SID: B, A, SID.
-    HelloFor(u16, u16, u16),
-    // A said CH to B: A, B, Na, SID, Pa.
-    HelloBy(u16, u16, u16, u16, u16),
-    // Anyone said CH to B: B, A, Na, SID, Pa.
-    HelloTo(u16, u16, u16, u16, u16),
-    // Anyone said some SH with Nb to A: A, Nb.
-    ReplyWith(u16, u16),
-    // Anyone said SH to A: A, Nb, SID, Pb.
-    ReplyTo(u16, u16, u16, u16),
-    // B said SH to A: B, A, Nb, SID, Pb.
-    ReplyBy(u16, u16, u16, u16, u16),
-    // Anyone said cert(B, K) to A: A, B, K.
-    Cert(u16, u16, u16),
-    // A noted {Agent B, PMS}: A, B, PMS.
-    Secret(u16, u16, u16),
-    // Anyone said Crypt (B's public key) PMS to B: B, PMS.
-    Sent(u16, u16),
-    // Someone noted {SID, Agent A, Agent B, M}: who, SID, A, B, M.
-    Session(u16, u16, u16, u16, u16),
-    // A said something under a key to anyone: A, the key.
-    Under(u16, u16),
+    Said(Who, What),
+    Noted(u16, Note),
 }
 
 // Whether the event says something to this agent.

@@ -26,11 +26,14 @@ use Rattle.forms.specs.declared.Sealed.{Sealed}
 use Rattle.forms.proofs.Shaped.{shapes}
 use Rattle.forms.proofs.Keyed.{role_client, role_server}
 use Rattle.earlier.specs.declared.Wanted.{Wanted}
-use Rattle.earlier.specs.declared.Wanted.TheVariants.{HelloBy, HelloTo, ReplyTo, ReplyBy, Secret, Sent, Session}
+use Rattle.earlier.specs.declared.Wanted.TheVariants.{Said, Noted}
+use Rattle.earlier.specs.declared.Who.TheVariants.{To, By}
+use Rattle.earlier.specs.declared.What.TheVariants as what
+use Rattle.earlier.specs.declared.Note.TheVariants as note
 use Rattle.earlier.specs.Earlier.{heard_at, past}
 use Rattle.earlier.proofs.Meant.{says_meant, says_told, not_later, here_row}
 use Rattle.earlier.proofs.Premises.{event_same, says_same, nonce_one, one_message, one_row, hello_by_sound, hello_by_complete, hello_to_sound, hello_to_complete, reply_to_sound, reply_to_complete, reply_by_sound, reply_by_complete, secret_sound, secret_complete, sent_sound, sent_complete, session_sound, session_complete}
-use Rattle.finished.specs.Tests.{own_finished, secret_of, greeted, client_finished, server_finished, client_resume, server_resume}
+use Rattle.finished.specs.Tests.{own_finished, secret_of, hello_in, reply_in, session_in, greeted, client_finished, server_finished, client_resume, server_resume}
 use Rattle.finished.proofs.Owned.{own_is}
 
 as_client : (o : Role) → not (server_in o) ≡ true → o ≡ Client
@@ -57,11 +60,11 @@ finished_same : {R R' : paper.role} {SID : ℕ} {M M' Na : paper.nonce} {Pa : �
 finished_same r q = rw (r, q) refl
 
 client_greeted : (find : Wanted → Bool) (m : Sealed) → m.role ≡ Client →
-    greeted find m ≡ (find (HelloBy m.a m.b m.na m.sid m.pa) && find (ReplyTo m.a m.nb m.sid m.pb))
+    greeted find m ≡ (find (Said (By m.a m.b) (hello_in m)) && find (Said (To m.a) (reply_in m)))
 client_greeted find m r = rw r refl
 
 server_greeted : (find : Wanted → Bool) (m : Sealed) → m.role ≡ Server →
-    greeted find m ≡ (find (HelloTo m.b m.a m.na m.sid m.pa) && find (ReplyBy m.b m.a m.nb m.sid m.pb))
+    greeted find m ≡ (find (Said (To m.b) (hello_in m)) && find (Said (By m.b m.a) (reply_in m)))
 server_greeted find m r = rw r refl
 
 module _ (file : List ℕ) (P : Promised file) (e : ℕ) (le : e < events_of file) where
@@ -124,7 +127,7 @@ module _ (file : List ℕ) (P : Promised file) (e : ℕ) (le : e < events_of fil
           server_greeted (past file e) m r ∙ rw (x, y) refl
 
       session_noted : (who : ℕ) {C : paper.agent} → who ≡ C → In (event.Notes C (session_note SID A B M)) (beginning file e) →
-          past file e (Session who m.sid m.a m.b m.m) ≡ true
+          past file e (Noted who (session_in m)) ≡ true
       session_noted who w k =
           session_complete file P e (not_later file P e le) who m.sid m.a m.b m.m (rw (← w, ← g.a, ← g.b) at k) g.sid g.m
 
@@ -147,11 +150,11 @@ module _ (file : List ℕ) (P : Promised file) (e : ℕ) (le : e < events_of fil
           (p.secret, rw (f.found, one_row file P p.na m.na f.na g.na, one_row file P p.nb m.nb f.nb g.nb) refl, f.secret)
 
       secret_noted : {secret : ℕ} {PMS : paper.nonce} → RowHolds file secret (paper.Nonce PMS) →
-          In (event.Notes A (secret_note B PMS)) (beginning file e) → past file e (Secret m.a m.b secret) ≡ true
+          In (event.Notes A (secret_note B PMS)) (beginning file e) → past file e (Noted m.a (note.Secret m.b secret)) ≡ true
       secret_noted {secret} x k = secret_complete file P e (not_later file P e le) m.a m.b secret (rw (← g.a, ← g.b) at k) x
 
       secret_sent : {secret : ℕ} {PMS : paper.nonce} {A' : paper.agent} → RowHolds file secret (paper.Nonce PMS) →
-          In (event.Says A' B (paper.Crypt (paper.pub_k B) (carried A PMS))) (beginning file e) → past file e (Sent m.b secret) ≡ true
+          In (event.Says A' B (paper.Crypt (paper.pub_k B) (carried A PMS))) (beginning file e) → past file e (Said (To m.b) (what.Sent m.b secret)) ≡ true
       secret_sent {secret} x k = sent_complete file P e (not_later file P e le) m.b secret (rw (← g.b) at k) x
 
   pub client_resume_sound : client_resume file (past file e) (heard_at file e) ≡ true → Step (bad file) (beginning file e) (event_meant file (event_at file e)) 12

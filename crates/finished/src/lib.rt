@@ -4,10 +4,10 @@
 ghost use Rattle.std.specs.Prelude.{◌≡◌};
 ghost use Rattle.earlier.specs.Boxes.{found};
 ghost use Rattle.earlier.specs.Earlier.{heard_in};
-ghost use Rattle.finished.specs.Tests.{own_finished, secret_of, greeted, client_finished, server_finished, client_resume, server_resume};
+ghost use Rattle.finished.specs.Tests.{own_finished, secret_of, hello_in, reply_in, session_in, greeted, client_finished, server_finished, client_resume, server_resume};
 
-use earlier::{Boxes, Wanted};
-use forms::Sealed;
+use earlier::{Boxes, Note, Wanted, What, Who};
+use forms::{Hello, Remembered, Reply, Sealed};
 use trace::{Event, Role};
 
 // The Finished of that role, said by its own side: the client's by A to B, the server's by B to A.
@@ -39,20 +39,49 @@ fn secret_of(file: &[u8], m: Sealed) -> Option<u16>
     same.then_some(p.secret)
 }
 
+// The hello, the reply and the session that a Finished holds.
+fn hello_in(m: Sealed) -> What
+    ensures { result ≡ hello_in m }
+{
+    What::Hello(Hello {
+        agent: m.a,
+        na: m.na,
+        sid: m.sid,
+        pa: m.pa,
+    })
+}
+
+fn reply_in(m: Sealed) -> What
+    ensures { result ≡ reply_in m }
+{
+    What::Reply(Reply {
+        nb: m.nb,
+        sid: m.sid,
+        pb: m.pb,
+    })
+}
+
+fn session_in(m: Sealed) -> Note
+    ensures { result ≡ session_in m }
+{
+    Note::Session(Remembered {
+        sid: m.sid,
+        a: m.a,
+        b: m.b,
+        m: m.m,
+    })
+}
+
 // Whether its side had the hello and the reply of a Finished: A said CH and was told SH, B was told CH and said SH.
 fn greeted(file: &[u8], boxes: &Boxes, m: Sealed) -> bool
     ensures { result ≡ greeted (found file.now boxes.now) m }
 {
-    match m.role {
-        Role::Client => {
-            earlier::happened(file, boxes, Wanted::HelloBy(m.a, m.b, m.na, m.sid, m.pa))
-                && earlier::happened(file, boxes, Wanted::ReplyTo(m.a, m.nb, m.sid, m.pb))
-        }
-        Role::Server => {
-            earlier::happened(file, boxes, Wanted::HelloTo(m.b, m.a, m.na, m.sid, m.pa))
-                && earlier::happened(file, boxes, Wanted::ReplyBy(m.b, m.a, m.nb, m.sid, m.pb))
-        }
-    }
+    let (hello, reply) = match m.role {
+        Role::Client => (Who::By(m.a, m.b), Who::To(m.a)),
+        Role::Server => (Who::To(m.b), Who::By(m.b, m.a)),
+    };
+    earlier::happened(file, boxes, Wanted::Said(hello, hello_in(m)))
+        && earlier::happened(file, boxes, Wanted::Said(reply, reply_in(m)))
 }
 
 // Rule 8: ClientFinished.
@@ -66,7 +95,8 @@ pub fn client_finished(file: &[u8], boxes: &Boxes, event: Event) -> bool
     let Some(secret) = secret_of(file, m) else {
         return false;
     };
-    greeted(file, boxes, m) && earlier::happened(file, boxes, Wanted::Secret(m.a, m.b, secret))
+    greeted(file, boxes, m)
+        && earlier::happened(file, boxes, Wanted::Noted(m.a, Note::Secret(m.b, secret)))
 }
 
 // Rule 9: ServerFinished.
@@ -80,7 +110,8 @@ pub fn server_finished(file: &[u8], boxes: &Boxes, event: Event) -> bool
     let Some(secret) = secret_of(file, m) else {
         return false;
     };
-    greeted(file, boxes, m) && earlier::happened(file, boxes, Wanted::Sent(m.b, secret))
+    let sent = Wanted::Said(Who::To(m.b), What::Sent(m.b, secret));
+    greeted(file, boxes, m) && earlier::happened(file, boxes, sent)
 }
 
 // Rule 12: ClientResume.
@@ -91,8 +122,7 @@ pub fn client_resume(file: &[u8], boxes: &Boxes, event: Event) -> bool
     let Some(m) = own_finished(file, event, Role::Client) else {
         return false;
     };
-    greeted(file, boxes, m)
-        && earlier::happened(file, boxes, Wanted::Session(m.a, m.sid, m.a, m.b, m.m))
+    greeted(file, boxes, m) && earlier::happened(file, boxes, Wanted::Noted(m.a, session_in(m)))
 }
 
 // Rule 13: ServerResume.
@@ -103,6 +133,5 @@ pub fn server_resume(file: &[u8], boxes: &Boxes, event: Event) -> bool
     let Some(m) = own_finished(file, event, Role::Server) else {
         return false;
     };
-    greeted(file, boxes, m)
-        && earlier::happened(file, boxes, Wanted::Session(m.b, m.sid, m.a, m.b, m.m))
+    greeted(file, boxes, m) && earlier::happened(file, boxes, Wanted::Noted(m.b, session_in(m)))
 }

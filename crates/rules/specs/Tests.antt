@@ -9,7 +9,10 @@ use Rattle.forms.specs.Kinds.{crypt_of, public_of, session_of, is_plain}
 use Rattle.forms.specs.Forms.{hello_of, reply_of, kept_of, signed_of, derived_of, verified_of}
 use Rattle.earlier.specs.Heard.{Heard}
 use Rattle.earlier.specs.declared.Wanted.{Wanted}
-use Rattle.earlier.specs.declared.Wanted.TheVariants.{HelloFor, ReplyWith, Cert, Secret, Under}
+use Rattle.earlier.specs.declared.Wanted.TheVariants.{Said, Noted}
+use Rattle.earlier.specs.declared.Who.TheVariants.{To, From}
+use Rattle.earlier.specs.declared.What.TheVariants as what
+use Rattle.earlier.specs.declared.Note.TheVariants as note
 use Rattle.earlier.specs.Earlier.{said_by, noted_by}
 
 -- a plain nonce that is not used
@@ -33,7 +36,7 @@ client_hello file used h = h.says && is_some_and (hello_of file h.row) (λ m. eq
 
 unfoldable pub server_hello : List ℕ → (used : List ℕ) → (Wanted → Bool) → Heard → Bool
 server_hello file used find h =
-    h.says && is_some_and (reply_of file h.row) (λ m. fresh file used m.nb && find (HelloFor h.from h.to m.sid))
+    h.says && is_some_and (reply_of file h.row) (λ m. fresh file used m.nb && find (Said (To h.from) (what.HelloFor h.to m.sid)))
 
 unfoldable pub certificate : List ℕ → Heard → Bool
 certificate file h =
@@ -45,12 +48,12 @@ unfoldable pub key_exchange : List ℕ → (used : List ℕ) → (Wanted → Boo
 key_exchange file used find note said =
     not note.says && is_some_and (kept_of file note.row) (λ k.
     fresh file used k.secret && said_by said note.from k.agent && is_some_and (crypt_of file said.row) (λ c.
-    eqb c.body k.secret && find (Cert note.from k.agent c.key)))
+    eqb c.body k.secret && find (Said (To note.from) (what.Certificate k.agent c.key))))
 
 unfoldable pub cert_verify : List ℕ → (Wanted → Bool) → Heard → Bool
 cert_verify file find h =
     h.says && is_some_and (verified_of file h.row) (λ m.
-    eqb m.signer h.from && eqb m.agent h.to && find (ReplyWith h.from m.nb) && find (Secret h.from h.to m.secret))
+    eqb m.signer h.from && eqb m.agent h.to && find (Said (To h.from) (what.ReplyWith m.nb)) && find (Noted h.from (note.Secret h.to m.secret)))
 
 unfoldable pub oops : List ℕ → (Wanted → Bool) → Heard → Bool
-oops file find h = h.says && eqb h.to 0 && is_some_and (session_of file h.row) (λ key. find (Under h.from h.row))
+oops file find h = h.says && eqb h.to 0 && is_some_and (session_of file h.row) (λ key. find (Said (From h.from) (what.Under h.row)))

@@ -11,7 +11,7 @@ ghost use Rattle.rules.specs.Tests as tests;
 ghost use Rattle.rules.specs.Making.{told, try_fake};
 
 use closure::row_marked;
-use earlier::{Boxes, Wanted};
+use earlier::{Boxes, Note, Wanted, What, Who};
 use trace::limits::ROW_LIMIT;
 use trace::{Event, SPY};
 
@@ -73,8 +73,8 @@ pub fn server_hello(file: &[u8], boxes: &Boxes, used: &[u8; ROW_LIMIT], event: E
     let Some(m) = forms::server_hello(file, row.0) else {
         return false;
     };
-    is_fresh(file, used, m.nb)
-        && earlier::happened(file, boxes, Wanted::HelloFor(from.0, to.0, m.sid))
+    let hello = Wanted::Said(Who::To(from.0), What::HelloFor(to.0, m.sid));
+    is_fresh(file, used, m.nb) && earlier::happened(file, boxes, hello)
 }
 
 // Rule 5: an agent's certificate of its public key.
@@ -114,7 +114,8 @@ pub fn key_exchange(
     };
     let fresh = is_fresh(file, used, k.secret);
     let sent = from == by && to.0 == k.agent && c.body == k.secret;
-    fresh && sent && earlier::happened(file, boxes, Wanted::Cert(by.0, k.agent, c.key))
+    let certified = Wanted::Said(Who::To(by.0), What::Certificate(k.agent, c.key));
+    fresh && sent && earlier::happened(file, boxes, certified)
 }
 
 // Rule 7: the nonce of an SH and a secret of one's own, signed.
@@ -128,10 +129,12 @@ pub fn cert_verify(file: &[u8], boxes: &Boxes, event: Event) -> bool
     let Some(m) = forms::cert_verify(file, row.0) else {
         return false;
     };
+    let reply = Wanted::Said(Who::To(from.0), What::ReplyWith(m.nb));
+    let secret = Wanted::Noted(from.0, Note::Secret(to.0, m.secret));
     m.signer == from.0
         && m.agent == to.0
-        && earlier::happened(file, boxes, Wanted::ReplyWith(from.0, m.nb))
-        && earlier::happened(file, boxes, Wanted::Secret(from.0, to.0, m.secret))
+        && earlier::happened(file, boxes, reply)
+        && earlier::happened(file, boxes, secret)
 }
 
 // Rule 14: a session key that one spoke under, lost to the spy.
@@ -142,7 +145,8 @@ pub fn oops(file: &[u8], boxes: &Boxes, event: Event) -> bool
     let Event::Says(from, to, row) = event else {
         return false;
     };
+    let under = Wanted::Said(Who::From(from.0), What::Under(row.0));
     to == SPY
         && forms::leaves::session_of(file, row.0).is_some()
-        && earlier::happened(file, boxes, Wanted::Under(from.0, row.0))
+        && earlier::happened(file, boxes, under)
 }

@@ -1,6 +1,7 @@
 -- `closure::Known::reopen` meets its contract: a marked Crypt whose body is marked, or that does not open, changes nothing.
 -- Assumes nothing.
 use mathlib.Core.Path.{sym, ◌∙◌}
+use Rattle.laws.proofs.Both.{both}
 use Rattle.closure.proofs.Depth.{reopen_opened, reopen_closed}
 use Rattle.closure.proofs.Known.reopen.Goals.{then-row_marked-via-then-row_marked, then-row_marked-via-else-row_marked+then-not-opens_with}
 use Rattle.closure.proofs.Known.reopen.Goals as goal
@@ -9,7 +10,7 @@ pub returns-then-row_marked : goal.returns-then-row_marked
 returns-then-row_marked c =
     let a = c.args in
     let s = a.self.now in
-    let m = sym c.row_marked.ensures ∙ c.if-not-row_marked.false in
+    let m = sym c.row_marked.ensures ∙ (both c.row_marked.result c.is_crypt.result c.if-not-again.false).0 in
     let w = c.in-Crypt in
     elim c.then-row_marked.branch [
       | then-row_marked-via-then-row_marked v ↦
