@@ -1,6 +1,6 @@
 -- Chains of rows: a row that is looked for and not at the link is further on, and a longer chain keeps what it had.
 -- Assumes nothing.
-use Prim.Native.Nat.{ℕ, ◌+◌, ◌-◌, ◌<◌, ◌≤◌}
+use Prim.Native.Nat.{ℕ, zero, suc, ◌+◌, ◌-◌, ◌<◌, ◌≤◌}
 use mathlib.Core.List.{List}
 use mathlib.Core.Path.{◌≡◌, refl, sym, ◌∙◌, ap}
 use native.Mathlib.Omega.{arith}
@@ -17,60 +17,67 @@ use Rattle.std.specs.Prelude.{Option}
 use Rattle.laws.specs.First.{found}
 use Rattle.trace.specs.Rows.{fields_at}
 use Rattle.trace.specs.Tests.{repeated_row}
-use Rattle.repeats.specs.Chain.{bucket_of, tag_of, Tagged, Chained, Down, Reach, here, further, few_rows}
+use Rattle.repeats.specs.Chain.{bucket_of, tag_of, unlinked, next_of, Tagged, Chained, Down, Reach, here, further, few_rows}
 use Rattle.trace.specs.declared.rows.Fields.{Fields}
 use Rattle.repeats.specs.declared.Chains.{Chains}
+use Rattle.repeats.specs.declared.Link.{Link}
 use Rattle.laws.proofs.First.{lt_suc, any_none}
 use Rattle.laws.proofs.Zeros.{zeros}
 use Rattle.laws.proofs.Both.{refuted}
 use Rattle.trace.proofs.Same.{same_equal}
 
-pub reach_end : (nexts : List ℕ) (link s : ℕ) → link ≡ 0 → Reach nexts link s → ⊥
-reach_end nexts link s z (here e) = omega arith
-reach_end nexts link s z (further l r) = omega arith
+pub reach_end : (links : List Link) (link s : ℕ) → link ≡ 0 → Reach links link s → ⊥
+reach_end links link s z (here e) = omega arith
+reach_end links link s z (further l r) = omega arith
 
-pub reach_next : (file nexts : List ℕ) (f : Fields) (row s : ℕ) → ¬ (fields_at file row ≡ f) → fields_at file s ≡ f →
-    (link : ℕ) → link ≡ row + 1 → Reach nexts link s → Reach nexts (get_or nexts row 0) s
-reach_next file nexts f row s other e link q (here p) =
+pub reach_next : (file : List ℕ) (links : List Link) (f : Fields) (row s : ℕ) → ¬ (fields_at file row ≡ f) → fields_at file s ≡ f →
+    (link : ℕ) → link ≡ row + 1 → Reach links link s → Reach links (next_of links row) s
+reach_next file links f row s other e link q (here p) =
     let q' : row ≡ s = omega arith in
     absurd (other (ap (fields_at file) q' ∙ e))
-reach_next file nexts f row s other e link q (further l r) = let q' : link - 1 ≡ row = omega arith in rw q' at r
+reach_next file links f row s other e link q (further l r) = let q' : link - 1 ≡ row = omega arith in rw q' at r
 
-pub tagged_none : (file tags : List ℕ) → Tagged file tags 0
-tagged_none file tags = λ j l. absurd (omega arith)
+pub tagged_none : (file : List ℕ) (links : List Link) → Tagged file links 0
+tagged_none file links = λ j l. absurd (omega arith)
 
-module _ (file tags : List ℕ) (r tag : ℕ) (right : tag ≡ tag_of (fields_at file r)) (room : r < length tags) (t : Tagged file tags r) where
-  tagged_at : (j : ℕ) → j < r + 1 → Dec (j ≡ r) → get_or (set tags r tag) j 0 ≡ tag_of (fields_at file j)
-  tagged_at j l (yes e) = rw (e, get_or-set_same tags r tag 0 room) right
-  tagged_at j l (no n) = rw (get_or-set_other tags r j tag 0 n) (t j (omega (arith, n)))
+module _ (file : List ℕ) (links : List Link) (r : ℕ) (link : Link) (right : link.tag ≡ tag_of (fields_at file r))
+    (room : r < length links) (t : Tagged file links r) where
+  tagged_at : (j : ℕ) → j < r + 1 → Dec (j ≡ r) → (get_or (set links r link) j unlinked).tag ≡ tag_of (fields_at file j)
+  tagged_at j l (yes e) = rw (e, get_or-set_same links r link unlinked room) right
+  tagged_at j l (no n) = rw (get_or-set_other links r j link unlinked n) (t j (omega (arith, n)))
 
   -- the tag of row r is put in its place
-  pub tagged_more : Tagged file (set tags r tag) (r + 1)
+  pub tagged_more : Tagged file (set links r link) (r + 1)
   tagged_more = λ j l. tagged_at j l (ℕ_discrete j r)
 
+-- a place of the empty list of links
+none_linked : (n j : ℕ) → get_or (replicate n unlinked) j unlinked ≡ unlinked
+none_linked zero j = refl
+none_linked (suc n) zero = refl
+none_linked (suc n) (suc j) = none_linked n j
+
 abbrev pub no_rows : Chains
-no_rows = record { heads = replicate 1024 0; nexts = replicate 1024 0; tags = replicate 1024 0 }
+no_rows = record { heads = replicate 1024 0; links = replicate 1024 unlinked }
 
 pub chained_none : (file : List ℕ) → Chained file no_rows 0
 chained_none file =
     record {
       heads_room = length-replicate {A = ℕ} 1024 0;
-      nexts_room = length-replicate {A = ℕ} 1024 0;
-      tags_room = length-replicate {A = ℕ} 1024 0;
-      down = λ j. rw (zeros 1024 j) (omega arith);
+      links_room = length-replicate {A = Link} 1024 unlinked;
+      down = λ j. rw (none_linked 1024 j) (omega arith);
       low = λ h. rw (zeros 1024 h) (omega arith);
       linked = λ s l. absurd (omega arith);
-      tagged = tagged_none file (replicate 1024 0);
+      tagged = tagged_none file (replicate 1024 unlinked);
     }
 
-module _ (nexts : List ℕ) (r head : ℕ) where
+module _ (links : List Link) (r : ℕ) (put : Link) where
   -- a link past row r is not changed
-  pub reach_set : (link s : ℕ) → Down nexts → link ≤ r → Reach nexts link s → Reach (set nexts r head) link s
+  pub reach_set : (link s : ℕ) → Down links → link ≤ r → Reach links link s → Reach (set links r put) link s
   reach_set link s down le (here e) = here e
   reach_set link s down le (further l p) =
-      let kept : get_or (set nexts r head) (link - 1) 0 ≡ get_or nexts (link - 1) 0 = get_or-set_other nexts r (link - 1) head 0 (omega arith) in
-      let le' : get_or nexts (link - 1) 0 ≤ r = omega (arith, down (link - 1)) in
-      further {s = s} l (rw kept (reach_set (get_or nexts (link - 1) 0) s down le' p))
+      let kept : next_of (set links r put) (link - 1) ≡ next_of links (link - 1) = ap (λ (x : Link). x.next) (get_or-set_other links r (link - 1) put unlinked (omega arith)) in
+      let le' : next_of links (link - 1) ≤ r = omega (arith, down (link - 1)) in
+      further {s = s} l (rw kept (reach_set (next_of links (link - 1)) s down le' p))
 
 -- row r and its bucket h, with rows below r chained
 module _ (file : List ℕ) (ch : Chains) (r h : ℕ) (bucket : h ≡ bucket_of (fields_at file r)) (c : Chained file ch r) where
@@ -79,7 +86,7 @@ module _ (file : List ℕ) (ch : Chains) (r h : ℕ) (bucket : h ≡ bucket_of (
 
   -- no row of the chain has the fields of row r
   abbrev Missed : Type 0
-  Missed = (s : ℕ) → Reach ch.nexts (get_or ch.heads h 0) s → fields_at file s ≡ fields_at file r → ⊥
+  Missed = (s : ℕ) → Reach ch.links (get_or ch.heads h 0) s → fields_at file s ≡ fields_at file r → ⊥
 
   pub not_repeated : Missed → repeated_row file r ≡ false
   not_repeated missed = any_none _ r (λ s l. refuted _ (λ e. let q : fields_at file s ≡ fields_at file r = same_equal _ _ e in
@@ -90,52 +97,54 @@ module _ (file : List ℕ) (ch : Chains) (r h : ℕ) (bucket : h ≡ bucket_of (
   abbrev heads' : List ℕ
   heads' = set ch.heads h (r + 1)
 
-  abbrev nexts' : List ℕ
-  nexts' = set ch.nexts r (get_or ch.heads h 0)
-
   module _ (room : r < 1024) (tag : ℕ) (right : tag ≡ tag_of (fields_at file r)) where
+    abbrev put : Link
+    put = record { next = get_or ch.heads h 0; tag = tag }
+
+    abbrev links' : List Link
+    links' = set ch.links r put
+
     new_head : get_or heads' h 0 ≡ r + 1
     new_head = get_or-set_same ch.heads h (r + 1) 0 (omega (arith, in_room, c.heads_room))
 
-    new_next : get_or nexts' r 0 ≡ get_or ch.heads h 0
-    new_next = get_or-set_same ch.nexts r (get_or ch.heads h 0) 0 (omega (arith, c.nexts_room))
+    new_next : next_of links' r ≡ get_or ch.heads h 0
+    new_next = ap (λ (x : Link). x.next) (get_or-set_same ch.links r put unlinked (omega (arith, c.links_room)))
 
-    down' : (j : ℕ) → Dec (j ≡ r) → get_or nexts' j 0 ≤ j
+    down' : (j : ℕ) → Dec (j ≡ r) → next_of links' j ≤ j
     down' j (yes e) = rw (e, new_next) (c.low h)
-    down' j (no n) = rw (get_or-set_other ch.nexts r j (get_or ch.heads h 0) 0 n) (c.down j)
+    down' j (no n) = rw (next_of, get_or-set_other ch.links r j put unlinked n) (c.down j)
 
     low' : (k : ℕ) → Dec (k ≡ h) → get_or heads' k 0 ≤ r + 1
     low' k (yes e) = rw (e, new_head) (omega arith)
     low' k (no n) = rw (get_or-set_other ch.heads h k (r + 1) 0 n) (omega (arith, c.low k))
 
-    behind : get_or nexts' (r + 1 - 1) 0 ≡ get_or ch.heads h 0
+    behind : next_of links' (r + 1 - 1) ≡ get_or ch.heads h 0
     behind = let e : r + 1 - 1 ≡ r = omega arith in rw e new_next
 
-    old_linked : (b s : ℕ) → Reach ch.nexts (get_or ch.heads b 0) s → Dec (b ≡ h) → Reach nexts' (get_or heads' b 0) s
+    old_linked : (b s : ℕ) → Reach ch.links (get_or ch.heads b 0) s → Dec (b ≡ h) → Reach links' (get_or heads' b 0) s
     old_linked b s p (yes e) =
-        let p' : Reach ch.nexts (get_or ch.heads h 0) s = rw e at p in
-        let q = reach_set ch.nexts r (get_or ch.heads h 0) (get_or ch.heads h 0) s c.down (c.low h) p' in
+        let p' : Reach ch.links (get_or ch.heads h 0) s = rw e at p in
+        let q = reach_set ch.links r put (get_or ch.heads h 0) s c.down (c.low h) p' in
         rw (e, new_head) (further {link = r + 1} {s = s} (omega arith) (rw behind q))
     old_linked b s p (no n) =
         rw (get_or-set_other ch.heads h b (r + 1) 0 n)
-        (reach_set ch.nexts r (get_or ch.heads h 0) (get_or ch.heads b 0) s c.down (c.low b) p)
+        (reach_set ch.links r put (get_or ch.heads b 0) s c.down (c.low b) p)
 
-    new_linked : (b s : ℕ) → b ≡ h → s ≡ r → Reach nexts' (get_or heads' b 0) s
+    new_linked : (b s : ℕ) → b ≡ h → s ≡ r → Reach links' (get_or heads' b 0) s
     new_linked b s e q = rw (e, new_head, q) (here refl)
 
-    pub chained_more : Chained file (record { heads = heads'; nexts = nexts'; tags = set ch.tags r tag }) (r + 1)
+    pub chained_more : Chained file (record { heads = heads'; links = links' }) (r + 1)
     chained_more =
         record {
           heads_room = length-set ch.heads h (r + 1) ∙ c.heads_room;
-          nexts_room = length-set ch.nexts r (get_or ch.heads h 0) ∙ c.nexts_room;
-          tags_room = length-set ch.tags r tag ∙ c.tags_room;
+          links_room = length-set ch.links r put ∙ c.links_room;
           down = λ j. down' j (ℕ_discrete j r);
           low = λ k. low' k (ℕ_discrete k h);
           linked = λ s l.
               ⊎_elim (λ (l' : s < r). old_linked _ s (c.linked s l') (ℕ_discrete _ h))
               (λ (e : s ≡ r). new_linked _ s (ap (λ (k : ℕ). bucket_of (fields_at file k)) e ∙ sym bucket) e)
               (lt_suc s r (rw add-one at l));
-          tagged = tagged_more file ch.tags r tag right (omega (arith, c.tags_room)) c.tagged;
+          tagged = tagged_more file ch.links r put right (omega (arith, c.links_room)) c.tagged;
         }
 
 -- of as many rows as a file can have, all count

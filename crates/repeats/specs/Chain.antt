@@ -6,6 +6,7 @@ use Rattle.laws.specs.Choose.{choose}
 use Rattle.trace.specs.Rows.{fields_at}
 use Rattle.trace.specs.declared.rows.Fields.{Fields}
 use Rattle.repeats.specs.declared.Chains.{Chains}
+use Rattle.repeats.specs.declared.Link.{Link}
 
 abbrev pub buckets : ℕ
 buckets = 1024
@@ -17,28 +18,34 @@ bucket_of f = (f.kind * 97 + f.role * 31 + f.first * 7 + f.second * 61 + f.third
 abbrev pub tag_of : Fields → ℕ
 tag_of f = f.first + 65536 * f.second
 
+-- at the end of a chain
+abbrev pub unlinked : Link
+unlinked = record { next = 0; tag = 0 }
+
+abbrev pub next_of : List Link → ℕ → ℕ
+next_of links row = (get_or links row unlinked).next
+
 -- the tags of the rows below n are right
-abbrev pub Tagged : (file tags : List ℕ) → ℕ → Type 0
-Tagged file tags n = (j : ℕ) → j < n → get_or tags j 0 ≡ tag_of (fields_at file j)
+abbrev pub Tagged : List ℕ → List Link → ℕ → Type 0
+Tagged file links n = (j : ℕ) → j < n → (get_or links j unlinked).tag ≡ tag_of (fields_at file j)
 
 -- links lead to lower rows
-abbrev pub Down : List ℕ → Type 0
-Down nexts = (j : ℕ) → get_or nexts j 0 ≤ j
+abbrev pub Down : List Link → Type 0
+Down links = (j : ℕ) → next_of links j ≤ j
 
 -- row s is on the chain that begins at the link
-pub data Reach (nexts : List ℕ) : ℕ → ℕ → Type 0 where
-  here : {link s : ℕ} → link ≡ s + 1 → Reach nexts link s
-  further : {link s : ℕ} → 0 < link → Reach nexts (get_or nexts (link - 1) 0) s → Reach nexts link s
+pub data Reach (links : List Link) : ℕ → ℕ → Type 0 where
+  here : {link s : ℕ} → link ≡ s + 1 → Reach links link s
+  further : {link s : ℕ} → 0 < link → Reach links (next_of links (link - 1)) s → Reach links link s
 
 -- the rows below r are chained by bucket, and have their tags
 pub record Chained (file : List ℕ) (c : Chains) (r : ℕ) : Type 0 where
   pub heads_room : length c.heads ≡ buckets
-  pub nexts_room : length c.nexts ≡ row_limit
-  pub tags_room : length c.tags ≡ row_limit
-  pub down : Down c.nexts
+  pub links_room : length c.links ≡ row_limit
+  pub down : Down c.links
   pub low : (h : ℕ) → get_or c.heads h 0 ≤ r
-  pub linked : (s : ℕ) → s < r → Reach c.nexts (get_or c.heads (bucket_of (fields_at file s)) 0) s
-  pub tagged : Tagged file c.tags r
+  pub linked : (s : ℕ) → s < r → Reach c.links (get_or c.heads (bucket_of (fields_at file s)) 0) s
+  pub tagged : Tagged file c.links r
 
 -- of more rows than a file can have, the first count
 abbrev pub few_rows : ℕ → ℕ

@@ -6,7 +6,7 @@ ghost use Rattle.trace.specs.File.{row_limit};
 ghost use Rattle.trace.specs.Rows.{fields_at};
 ghost use Rattle.trace.specs.Tests.{repeated_row};
 ghost use Rattle.laws.specs.First.{found};
-ghost use Rattle.repeats.specs.Chain.{buckets, bucket_of, tag_of, Chained, few_rows};
+ghost use Rattle.repeats.specs.Chain.{buckets, bucket_of, tag_of, unlinked, Chained, few_rows};
 
 use trace::limits::{ROW_LIMIT, ROWS};
 use trace::rows::{Fields, fields_at};
@@ -15,12 +15,18 @@ const BUCKETS: usize = 1024;
 
 const HALF: u32 = 0x10000;
 
+// A row's tag, and the next row of its bucket.
+#[derive(Clone, Copy)]
+struct Link {
+    next: u16,
+    tag: u32,
+}
+
 // Some first rows, chained by bucket. A bucket's head and a row's next are one more than a row's number, or 0 at the end.
 #[derive(Drop)]
 struct Chains {
     heads: [u16; BUCKETS],
-    nexts: [u16; ROW_LIMIT],
-    tags: [u32; ROW_LIMIT],
+    links: [Link; ROW_LIMIT],
 }
 
 // Odd factors spread the rows of a usual file over all buckets.
@@ -46,10 +52,10 @@ impl Chains {
     // Whether the row has these fields. It is read only where its tag is theirs.
     fn is(&self, file: &[u8], row: u16, f: Fields) -> bool
         requires in_range { row < row_limit }
-        requires tag_kept { get_or self.now.tags row 0 ≡ tag_of (fields_at file.now row) }
+        requires tag_kept { (get_or self.now.links row unlinked).tag ≡ tag_of (fields_at file.now row) }
         ensures { IsTrue result ↔ (fields_at file.now row ≡ f) }
     {
-        self.tags[usize::from(row)] == tag(f) && fields_at(file, row) == f
+        self.links[usize::from(row)].tag == tag(f) && fields_at(file, row) == f
     }
 
     // Whether row r equals one of the rows below it, which are chained. If it does not, it is chained too.
@@ -66,11 +72,12 @@ impl Chains {
             if self.is(file, row, f) {
                 return true;
             }
-            link = self.nexts[usize::from(row)];
+            link = self.links[usize::from(row)].next;
         }
-        let at = usize::from(r);
-        self.tags[at] = tag(f);
-        self.nexts[at] = self.heads[h];
+        self.links[usize::from(r)] = Link {
+            next: self.heads[h],
+            tag: tag(f),
+        };
         self.heads[h] = r + 1;
         false
     }
@@ -83,8 +90,7 @@ fn first_repeat(file: &[u8], rows: u16) -> Option<u16>
 {
     let mut chains = Chains {
         heads: [0; BUCKETS],
-        nexts: [0; ROW_LIMIT],
-        tags: [0; ROW_LIMIT],
+        links: [Link { next: 0, tag: 0 }; ROW_LIMIT],
     };
     for r in 0..rows {
         if chains.add(file, r) {

@@ -29,7 +29,7 @@ loop-row-preserved c =
     rw c.from.ensures
     (record {
       low = omega (arith, c.requires.chained.down row);
-      ahead = λ s p e. reach_next file c.args.self.now.nexts _ row s other e l.link q (l.invariant.ahead s p e);
+      ahead = λ s p e. reach_next file c.args.self.now.links _ row s other e l.link q (l.invariant.ahead s p e);
     })
 
 pub returns : goal.returns
@@ -43,6 +43,6 @@ returns c =
     record {
       repeated = sym
           (not_repeated file a.self.now a.r _ bucket c.requires.chained
-          (λ s p e. reach_end a.self.now.nexts l.link s (omega arith) (l.invariant.ahead s p (e ∙ sym fields))));
-      chained = λ _. rw c.from-at.ensures (chained_more file a.self.now a.r _ bucket c.requires.chained c.requires.in_range _ tag);
+          (λ s p e. reach_end a.self.now.links l.link s (omega arith) (l.invariant.ahead s p (e ∙ sym fields))));
+      chained = λ _. rw c.from-2.ensures (chained_more file a.self.now a.r _ bucket c.requires.chained c.requires.in_range _ tag);
     }

@@ -9,7 +9,7 @@ abbrev pub invariant-loop-row : goal.invariant-loop-row
 invariant-loop-row l =
     record {
       low : l.link ≤ l.r;
-      ahead : (s : ℕ) → Reach l.self.nexts (get_or l.self.heads l.h 0) s → fields_at l.file s ≡ l.f → Reach l.self.nexts l.link s;
+      ahead : (s : ℕ) → Reach l.self.links (get_or l.self.heads l.h 0) s → fields_at l.file s ≡ l.f → Reach l.self.links l.link s;
     }
 
 abbrev pub decreases-loop-row : goal.decreases-loop-row
