@@ -80,11 +80,10 @@ fn said_finished(file: &[u8], event: Event, by: Side, s: Session) -> bool
 fn mark_event(file: &[u8], boxes: &Boxes, marks: &mut [u8; ROW_LIMIT], j: u16, role: Role, to: u16)
     ensures { marks.new ≡ mark_event file.now boxes.now (server_in role) to j marks.old }
 {
-    if !earlier::said_to(trace::event_at(file, EventNo(j)), to) {
-        return;
-    }
     if let Some(hash) = sealed(boxes, role, j) {
-        trace::put(marks, usize::from(hash), 1);
+        if earlier::said_to(trace::event_at(file, EventNo(j)), to) {
+            trace::put(marks, usize::from(hash), 1);
+        }
     }
 }
 

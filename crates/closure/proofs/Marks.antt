@@ -42,6 +42,10 @@ module _ (m : ℕ) (l : List ℕ) (room : length l ≡ m) where
   set_room : (i : ℕ) → length (set l i 1) ≡ m
   set_room i = length-set l i 1 ∙ room
 
+-- a row below the limit whose byte is 1 has its mark
+pub mark_is : (rs : List ℕ) (r : ℕ) → r < row_limit → get_or rs r 0 ≡ 1 → Marked rs r
+mark_is rs r l e = rw (lt-ltb r row_limit l, e)
+
 -- zeros have no mark
 pub none_marked : (m i : ℕ) → ¬ (marked m (replicate m 0) i ≡ true)
 none_marked m i e =

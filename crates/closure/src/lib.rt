@@ -1,8 +1,8 @@
 // Closing: a row that is learnt is opened once, and a key that becomes known opens what waited for it.
 #![tactic(auto)]
 
-ghost use Rattle.std.specs.Prelude.{true, ◌≡◌, suc, length};
-ghost use Rattle.trace.specs.File.{agent_limit, rows_of};
+ghost use Rattle.std.specs.Prelude.{true, ◌≡◌, ◌≤◌, ◌<◌, suc, length};
+ghost use Rattle.trace.specs.File.{row_limit, agent_limit, rows_of};
 ghost use Rattle.trace.specs.Events.{event_at};
 ghost use Rattle.trace.specs.Kinds.{row_at};
 ghost use Rattle.closure.specs.Closure.{is_crypt, state_of, marked, row_marked, opens, below, learn_row, reopen_row, up_rows, down_rows, pass_rows, Reaches, see_row, see_event, start_keys, key_known, start_rows};
@@ -20,7 +20,7 @@ const PRIVATE: usize = AGENT_LIMIT;
 
 // A mark for each analysed row, and one for each key that is known, public keys at 0 to 63 and private
 // ones at 64 to 127.
-#[derive(Drop)]
+#[derive(Clone, Copy)]
 pub struct Known {
     pub rows: [u8; ROW_LIMIT],
     pub keys: [u8; KEYS],
@@ -48,7 +48,8 @@ pub fn row_marked(rows: &[u8; ROW_LIMIT], r: u16) -> bool
 // The rows that a pass looks at: one past the marks is never known, and a file that was read has none.
 #[tactic(auto, using(crate::proofs::Folds::reaches_min))]
 fn reach(file: &[u8]) -> u16
-    ensures { Reaches file.now result }
+    ensures upper_bound { result ≤ row_limit }
+    ensures reaches { Reaches file.now result }
 {
     trace::row_count(file).min(ROWS)
 }
@@ -170,11 +171,11 @@ impl Known {
     // marked. Most rows of a pass end at the mark, so that a call would cost more than what it does.
     #[inline(always)]
     fn reopen(&mut self, file: &[u8], r: u16) -> bool
+        requires { r < row_limit }
         ensures { state_of self.new.rows self.new.keys result ≡
             reopen_row file.now self.old.rows self.old.keys r }
     {
-        let again = row_marked(&self.rows, r) & is_crypt(file, r);
-        if !again {
+        if self.rows[usize::from(r)] != 1 || !is_crypt(file, r) {
             return false;
         }
         let Row::Crypt(k, body) = trace::row_at(file, RowNo(r)) else {
@@ -189,6 +190,7 @@ impl Known {
     // From the lowest row up; tells whether a key became known.
     #[tactic(auto, unfolding(crate::specs::Closure::up_rows))]
     fn pass_up(&mut self, file: &[u8], n: u16) -> bool
+        requires { n ≤ row_limit }
         ensures { state_of self.new.rows self.new.keys result ≡
             up_rows file.now n self.old.rows self.old.keys }
     {
@@ -204,6 +206,7 @@ impl Known {
     // From the highest row down, where a key became known on the way up.
     #[tactic(auto, unfolding(crate::specs::Closure::down_rows))]
     fn pass_down(&mut self, file: &[u8], n: u16)
+        requires { n ≤ row_limit }
         ensures { state_of self.new.rows self.new.keys true ≡
             down_rows file.now n self.old.rows self.old.keys }
     {

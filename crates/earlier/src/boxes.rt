@@ -27,7 +27,7 @@ const SLOTS: usize = 1024;
 
 // The heads of the boxes; of each event the link to the one before it in its box, the hash of its Finished as a
 // client's and as a server's, and its card; and the slots.
-#[derive(Drop)]
+#[derive(Clone, Copy)]
 pub struct Boxes {
     pub heads: [u16; BOXES],
     pub links: [u16; EVENT_LIMIT],
@@ -57,6 +57,7 @@ fn box_of(event: Event) -> u16
 }
 
 // The box of what is wanted; what is said to anyone can be in any, and has none.
+#[inline(always)]
 fn box_for(wanted: Wanted) -> Option<u16>
     ensures value { result ≡ box_for wanted }
     ensures in_range { IfSome result (λ b. b < box_count) }
@@ -86,13 +87,22 @@ pub fn next(boxes: &Boxes, link: u16) -> u16
     if l < link { l } else { 0 }
 }
 
+// Few cards fit, so what a search needs to read an event is kept out of its loop.
+#[inline(never)]
+fn event_of(file: &[u8], j: u16) -> Event
+    ensures { heard_in result ≡ heard_at file.now j }
+{
+    trace::event_at(file, EventNo(j))
+}
+
 // Whether event j is what is wanted: its card first, since most differ there.
+#[inline(always)]
 fn fits(file: &[u8], boxes: &Boxes, wanted: Wanted, j: u16) -> bool
     ensures { result ≡ fits_at file.now boxes.now wanted j }
 {
     j < EVENTS
         && cards::fits_card(wanted, boxes.cards[usize::from(j)])
-        && cards::fits_agents(wanted, trace::event_at(file, EventNo(j)))
+        && cards::fits_agents(wanted, event_of(file, j))
 }
 
 // The events of a chain, the latest first.
@@ -134,11 +144,21 @@ pub fn events_to(boxes: &Boxes, to: u16) -> Chain
     events_from(boxes, latest_to(boxes, to))
 }
 
-// Whether an event of the chain is what is wanted.
+// Whether an event of the chain is what is wanted. It goes by links: over `Chain`, whose step comes before the look, a
+// look takes half as long again.
+#[inline(always)]
+#[tactic(auto, using(crate::proofs::Chains::chain_step, crate::proofs::Chains::chain_end))]
 fn search(file: &[u8], boxes: &Boxes, wanted: Wanted, head: u16) -> bool
     ensures { result ≡ some (fits_at file.now boxes.now wanted) (chain_from boxes.now head) }
 {
-    events_from(boxes, head).any(|e| fits(file, boxes, wanted, e))
+    let mut link = head;
+    while let Some(e) = link.checked_sub(1) {
+        if fits(file, boxes, wanted, e) {
+            return true;
+        }
+        link = next(boxes, link);
+    }
+    false
 }
 
 // The same in the boxes of all receivers.
@@ -148,7 +168,9 @@ fn search_all(file: &[u8], boxes: &Boxes, wanted: Wanted) -> bool
     (0..AGENT_LIMIT).any(|b| search(file, boxes, wanted, boxes.heads[b]))
 }
 
-// Whether some earlier event is what is wanted.
+// Whether some earlier event is what is wanted. It stands in place where it is asked for: each rule looks for one
+// message, and so has a loop that compares cards of that one alone.
+#[inline(always)]
 pub fn happened(file: &[u8], boxes: &Boxes, wanted: Wanted) -> bool
     ensures { result ≡ found file.now boxes.now wanted }
 {

@@ -76,6 +76,7 @@ pub fn card_of(file: &[u8], event: Event) -> Card
     }
 }
 
+#[inline(always)]
 fn fits_said(what: What, card: Card) -> bool
     ensures { result ≡ fits_said what card }
 {
@@ -95,6 +96,7 @@ fn fits_said(what: What, card: Card) -> bool
     }
 }
 
+#[inline(always)]
 fn fits_noted(note: Note, card: Card) -> bool
     ensures { result ≡ fits_noted note card }
 {
@@ -106,6 +108,7 @@ fn fits_noted(note: Note, card: Card) -> bool
 }
 
 // Whether the message is what is wanted.
+#[inline(always)]
 pub fn fits_card(wanted: Wanted, card: Card) -> bool
     ensures { result ≡ fits_card wanted card }
 {

@@ -83,7 +83,9 @@ impl Chains {
     }
 }
 
-// The lowest row that equals an earlier one. Earlier rows are chained by bucket, so few are compared.
+// The lowest row that equals an earlier one. Earlier rows are chained by bucket, so few are compared. It is kept out of
+// line, so that a file with a bad row is refused before any room is made for the chains.
+#[inline(never)]
 fn first_repeat(file: &[u8], rows: u16) -> Option<u16>
     requires { rows ≤ row_limit }
     ensures { result ≡ found (repeated_row file.now) rows }

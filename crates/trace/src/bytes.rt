@@ -1,5 +1,6 @@
 // Bytes of the file. A byte past the end reads as 0, so a reader needs no bound.
 ghost use Rattle.std.specs.Prelude.{◌≡◌, ◌<◌, ℕ, List, set};
+ghost use Rattle.std.specs.Int.{w64, to_le_bytes};
 ghost use Rattle.trace.specs.File.{byte, word};
 ghost use Rattle.trace.specs.Items.{ItemAt, far};
 
@@ -29,19 +30,23 @@ pub fn word_at(file: &[u8], at: usize) -> u16
     u16::from_le_bytes([byte_at(file, at), byte_at(file, at + 1)])
 }
 
-// The eight bytes of a row or an event that the file ends before, or in.
-fn padded(file: &[u8], at: usize) -> [u8; ITEM]
+// The eight bytes of a row or an event that the file ends before, or in. A file that is not refused has none. They come
+// as one number, so that a recursion that reads a row keeps no room on the stack for them.
+#[cold]
+fn padded(file: &[u8], at: usize) -> u64
     requires { at < far }
-    ensures { ItemAt file.now at result }
+    ensures { ItemAt file.now at (to_le_bytes w64 result) }
 {
     let mut item = [0; ITEM];
     for (k, b) in item.iter_mut().enumerate() {
         *b = byte_at(file, at + k);
     }
-    item
+    u64::from_le_bytes(item)
 }
 
-// What is read from the eight bytes of a row or an event. One test of the bound serves all of them: these are read most often.
+// What is read from the eight bytes of a row or an event. One test of the bound serves all of them, and they are read
+// in place: these are read most often.
+#[inline(always)]
 pub fn read_item<T, F: FnOnce([u8; ITEM]) -> T>(file: &[u8], at: usize, read: F) -> T
     requires in_range { at < far }
     requires callable { F.IsAlwaysCallable read }
@@ -50,6 +55,6 @@ pub fn read_item<T, F: FnOnce([u8; ITEM]) -> T>(file: &[u8], at: usize, read: F)
     if let Some([a, b, c, d, e, f, g, h]) = file.get(at..at + ITEM) {
         read([*a, *b, *c, *d, *e, *f, *g, *h])
     } else {
-        read(padded(file, at))
+        read(padded(file, at).to_le_bytes())
     }
 }
