@@ -1,6 +1,4 @@
 // The longest chains that a file holds: pairs of pairs, ciphertexts of ciphertexts, and keys that open the next key.
-ghost use Rattle.std.specs.Prelude.{◌<◌};
-
 use super::files;
 use trace::limits::{LONGEST_FILE, ROWS};
 use trace::rows::Kind;
@@ -87,17 +85,13 @@ fn session_keys(file: &mut [u8]) {
 }
 
 // The key of a link lies above the key inside if the chain falls, else below it.
-fn link_key(i: u16, above: bool) -> u16
-    requires { i < 507 }
-{
-    let key = FIRST_KEY + i;
+fn link_key(i: u16, above: bool) -> u16 {
+    let key = FIRST_KEY + i % LINKS;
     if above { key + 1 } else { key }
 }
 
-fn put_link(file: &mut [u8], i: u16, falling: bool)
-    requires { i < 507 }
-{
-    let r = FIRST_LINK + i;
+fn put_link(file: &mut [u8], i: u16, falling: bool) {
+    let r = FIRST_LINK + i % LINKS;
     files::put_row(
         file,
         r,

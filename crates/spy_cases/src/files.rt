@@ -1,5 +1,5 @@
 // Writes the parts of a trace file into lent bytes; what lies past their end is left out.
-ghost use Rattle.std.specs.Prelude.{◌≡◌, ◌+◌, ◌*◌, ◌≤◌};
+ghost use Rattle.std.specs.Prelude.{◌≡◌, ◌+◌, ◌*◌};
 
 use trace::limits::{ITEM, ROWS_AT};
 use trace::put;
@@ -17,14 +17,12 @@ pub fn length_of(rows: u16, events: u16) -> usize
     ROWS_AT + ITEM * (usize::from(rows) + usize::from(events))
 }
 
-pub fn put_header(file: &mut [u8], set: u8, rows: u16, events: u16)
-    requires { rows ≤ 1024 }
-{
+pub fn put_header(file: &mut [u8], set: u8, rows: u16, events: u16) {
     put_word(file, 0, 1);
     put(file, 4, set);
     put_word(file, 12, ROWS_AT as u16);
     put_word(file, 14, rows);
-    put_word(file, 16, length_of(rows, 0) as u16);
+    put_word(file, 16, (length_of(rows, 0) % 0x10000) as u16);
     put_word(file, 18, events);
 }
 
